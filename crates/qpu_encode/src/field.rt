@@ -1,0 +1,28 @@
+//! One field of a word.
+
+ghost use Rattle.std.specs.Prelude.{◌≡◌, ◌+◌, ◌-◌, ◌*◌, ◌/◌, ◌%◌, ◌^◌, ◌<◌, ◌≤◌};
+ghost use Rattle.qpu_encode.specs.Fields.{field, replaced};
+
+/// The field of `W` bits whose lowest bit is bit `LO`.
+pub struct Field<const LO: u32, const W: u32>;
+
+impl<const LO: u32, const W: u32> Field<LO, W> {
+    pub fn get(word: u64) -> u64
+        requires width { W ≤ 32 }
+        requires within { LO + W ≤ 64 }
+        requires some { 1 ≤ W }
+        ensures { result ≡ field LO W word }
+    {
+        (word >> LO) % (1 << W)
+    }
+
+    pub fn put(word: u64, value: u64) -> u64
+        requires width { W ≤ 32 }
+        requires within { LO + W ≤ 64 }
+        requires some { 1 ≤ W }
+        requires fits { value < 2 ^ W }
+        ensures { result ≡ replaced LO W word value }
+    {
+        word - (Self::get(word) << LO) + (value << LO)
+    }
+}

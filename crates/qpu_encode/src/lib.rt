@@ -1,0 +1,16 @@
+//! Instruction words of the QPU and their typed form.
+//!
+//! Today two words are in the profile: a plain nop and a program end without operations.
+#![tactic(auto)]
+
+mod codes;
+mod field;
+mod form;
+mod instr;
+mod profile;
+mod words;
+
+pub use field::Field;
+pub use form::{AddOp, AddPart, Cond, Form, Head, MulOp, MulPart};
+pub use instr::Instr;
+pub use words::{decode, encode};

@@ -1,0 +1,157 @@
+//! Words both ways.
+
+ghost use Rattle.std.specs.Prelude.{get_or, false, true, ◌≡◌, ◌≢◌, ◌≤◌, ◌<◌, ◌+◌, ◌-◌, ◌*◌, ◌^◌, Some, IfSome, IfNone};
+ghost use Rattle.qpu_encode.specs.Fields.{field, fields_from, join};
+ghost use Rattle.qpu_encode.specs.Forms.{form_of, word_of, alu_from, alu_widths, alu_values, bit, is_in_profile};
+ghost use Rattle.qpu_encode.specs.declared.form.Form.{Form};
+ghost use Rattle.qpu_encode.specs.Laws.{FitEach};
+
+use crate::codes::{
+    add_code_of, cond_code_of, find_add_op, find_cond, find_head, find_mul_op, head_code_of,
+    mul_code_of,
+};
+use crate::field::Field;
+use crate::form::{AddPart, Form, Head, MulPart};
+use crate::instr::Instr;
+use crate::profile::is_fine;
+
+fn byte<const LO: u32, const W: u32>(word: u64) -> u8
+    requires width { W ≤ 8 }
+    requires within { LO + W ≤ 64 }
+    requires some { 1 ≤ W }
+    ensures { result ≡ field LO W word }
+{
+    Field::<LO, W>::get(word) as u8
+}
+
+#[tactic(auto, unfolding(crate::specs::Forms::alu_from))]
+fn alu(word: u64) -> Option<Instr>
+    ensures { result ≡ alu_from (fields_from 0 alu_widths word) }
+{
+    let head = find_head(Field::<60, 4>::get(word))?;
+    let add_op = find_add_op(Field::<24, 5>::get(word))?;
+    let mul_op = find_mul_op(Field::<29, 3>::get(word))?;
+    let add_cond = find_cond(Field::<49, 3>::get(word))?;
+    let mul_cond = find_cond(Field::<46, 3>::get(word))?;
+    let add = AddPart {
+        op: add_op,
+        cond: add_cond,
+        dst: byte::<38, 6>(word),
+        a: byte::<9, 3>(word),
+        b: byte::<6, 3>(word),
+    };
+    let mul = MulPart {
+        op: mul_op,
+        cond: mul_cond,
+        dst: byte::<32, 6>(word),
+        a: byte::<3, 3>(word),
+        b: byte::<0, 3>(word),
+    };
+    let form = Form::Alu {
+        head,
+        unpack: byte::<57, 3>(word),
+        add,
+        mul,
+        flags: byte::<45, 1>(word) == 1,
+        swap: byte::<44, 1>(word) == 1,
+        ra: byte::<18, 6>(word),
+        rb: byte::<12, 6>(word),
+    };
+    if (byte::<56, 1>(word) == 0 && byte::<52, 4>(word) == 0) && is_fine(&form) {
+        Some(Instr { form })
+    } else {
+        None
+    }
+}
+
+// The number of these high bits and these low ones.
+fn push<const W: u32>(high: u64, low: u64) -> u64
+    requires width { W ≤ 32 }
+    requires room { high < 2 ^ (64 - W) }
+    requires fits { low < 2 ^ W }
+    ensures { result ≡ high * 2 ^ W + low }
+{
+    (high << W) + low
+}
+
+fn alu_word(
+    head: Head,
+    unpack: u8,
+    add: &AddPart,
+    mul: &MulPart,
+    bits: [bool; 2],
+    reads: [u8; 2],
+) -> u64
+    requires { FitEach alu_widths (alu_values head unpack add.now mul.now (get_or bits 0 false) (get_or bits 1 false) (get_or reads 0 0) (get_or reads 1 0)) }
+    ensures { result ≡ join alu_widths (alu_values head unpack add.now mul.now (get_or bits 0 false) (get_or bits 1 false) (get_or reads 0 0) (get_or reads 1 0)) }
+{
+    let [flags, swap] = bits;
+    let [ra, rb] = reads;
+    let w = push::<4>(0, u64::from(head_code_of(head)));
+    let w = push::<3>(w, u64::from(unpack));
+    let w = push::<1>(w, 0);
+    let w = push::<4>(w, 0);
+    let w = push::<3>(w, u64::from(cond_code_of(add.cond)));
+    let w = push::<3>(w, u64::from(cond_code_of(mul.cond)));
+    let w = push::<1>(w, bit_of(flags));
+    let w = push::<1>(w, bit_of(swap));
+    let w = push::<6>(w, u64::from(add.dst));
+    let w = push::<6>(w, u64::from(mul.dst));
+    let w = push::<3>(w, u64::from(mul_code_of(mul.op)));
+    let w = push::<5>(w, u64::from(add_code_of(add.op)));
+    let w = push::<6>(w, u64::from(ra));
+    let w = push::<6>(w, u64::from(rb));
+    let w = push::<3>(w, u64::from(add.a));
+    let w = push::<3>(w, u64::from(add.b));
+    let w = push::<3>(w, u64::from(mul.a));
+    push::<3>(w, u64::from(mul.b))
+}
+
+fn bit_of(b: bool) -> u64
+    ensures { result ≡ bit b }
+{
+    u64::from(b)
+}
+
+// The form of a word, by its fields.
+#[tactic(auto, unfolding(crate::specs::Forms::form_of))]
+fn form_by_fields(word: u64) -> Option<Instr>
+    ensures { result ≡ form_of word }
+{
+    alu(word)
+}
+
+/// The instruction of a word; none exactly where the word is outside the profile.
+pub fn decode(word: u64) -> Option<Instr>
+    ensures form { result ≡ form_of word }
+
+    // The word is that of the instruction.
+    ensures back { IfSome result (λ form. word_of form ≡ word) }
+
+    // Without an instruction it is the word of no form in the profile.
+    ensures none { IfNone result ((form : Form) → is_in_profile form ≡ true → word_of form ≢ word) }
+{
+    form_by_fields(word)
+}
+
+/// The word of an instruction.
+#[tactic(auto, unfolding(crate::specs::Forms::word_of))]
+pub fn encode(instr: &Instr) -> u64
+    ensures word { result ≡ word_of instr.now }
+
+    // Decoding gives the instruction again.
+    ensures again { form_of result ≡ Some instr.now }
+{
+    match instr.form {
+        Form::Alu {
+            head,
+            unpack,
+            add,
+            mul,
+            flags,
+            swap,
+            ra,
+            rb,
+        } => alu_word(head, unpack, &add, &mul, [flags, swap], [ra, rb]),
+    }
+}
