@@ -1,0 +1,77 @@
+-- One issue: what the next word of one QPU does to it and to the counts.
+use Rattle.std.specs.Prelude.{ℕ, ◌+◌, ◌-◌, ◌%◌, ◌^◌, List, Bool, true, false, if◌then◌else◌, nat_lt, ◌==◌, ◌&&◌, min, slice_get}
+use Rattle.std.specs.declared.option.Option.{Option}
+use Rattle.std.specs.declared.option.Option.TheVariants.{Some, None}
+use Rattle.qpu_encode.specs.declared.form.Head.{Head}
+use Rattle.qpu_encode.specs.declared.form.Head.TheVariants.{Plain, End}
+use Rattle.qpu_encode.specs.declared.form.Form.{Form}
+use Rattle.qpu_encode.specs.declared.form.Form.TheVariants.{Alu}
+use Rattle.qpu_encode.specs.Forms.{form_of}
+use Rattle.qpu_machine.specs.declared.state.Rule.{Rule}
+use Rattle.qpu_machine.specs.declared.state.Rule.TheVariants.{H0}
+use Rattle.qpu_machine.specs.declared.state.Effect.{Effect}
+use Rattle.qpu_machine.specs.declared.state.Effect.TheVariants as effect
+use Rattle.qpu_machine.specs.declared.state.Flow.{Flow}
+use Rattle.qpu_machine.specs.declared.state.Qpu.{Qpu}
+use Rattle.qpu_machine.specs.declared.state.Counts.{Counts}
+
+-- a count stays at its last value
+abbrev pub one_more : ℕ → ℕ
+one_more count = min (count + 1) (2 ^ 64 - 1)
+
+abbrev pub form_at : Option ℕ → Option Form
+form_at None = None
+form_at (Some word) = form_of word
+
+-- the word at a place: none where the place is outside the code or the word outside the profile
+unfoldable pub fetched : List ℕ → ℕ → Option Form
+fetched code place = form_at (slice_get code place)
+
+abbrev pub is_end : Form → Bool
+is_end (Alu Plain unpack add mul flags swap ra rb) = false
+is_end (Alu End unpack add mul flags swap ra rb) = true
+
+-- H0: there is no word of the profile at the place, or it is a program end in one of the two words after a program end
+unfoldable pub least_broken : Option Form → Flow → Option Rule
+least_broken None flow = Some H0
+least_broken (Some form) flow = if is_end form && nat_lt 0 flow.ending then Some H0 else None
+
+-- where a QPU is after a word: after a program end two more words are done, and then it has ended
+unfoldable pub flow_after : Form → Flow → Flow
+flow_after form flow =
+    record {
+      place = (flow.place + 1) % 2 ^ 32;
+      ended = flow.ending == 1;
+      ending = if is_end form then 2 else flow.ending - 1;
+      issued = one_more flow.issued;
+    }
+
+-- what an issue leaves of its QPU and of the counts, and what it did
+pub record Local : Type 0 where
+  pub qpu : Qpu
+  pub counts : Counts
+  pub effect : Effect
+
+-- the word is done: neither unit has an operation, so that the registers stay
+unfoldable pub done : Form → Qpu → Counts → Local
+done form q c =
+    record {
+      qpu = record q { flow = flow_after form q.flow };
+      counts = record c { issued = one_more c.issued };
+      effect = effect.Did;
+    }
+
+abbrev pub idle : Qpu → Counts → Effect → Local
+idle q c what = record { qpu = q; counts = c; effect = what }
+
+-- a broken word is not done
+abbrev pub judged : Option Rule → ℕ → Option Form → Qpu → Counts → Local
+judged (Some rule) k word q c = idle q c (effect.Broken rule k q.flow.place)
+judged None k None q c = idle q c effect.Nothing
+judged None k (Some form) q c = done form q c
+
+-- an issue of QPU k: one that has ended does nothing
+unfoldable pub local : List ℕ → ℕ → Qpu → Counts → Local
+local code k q c =
+    if q.flow.ended then idle q c effect.Nothing
+    else judged (least_broken (fetched code q.flow.place) q.flow) k (fetched code q.flow.place) q c

@@ -1,0 +1,4 @@
+pub mod Planned
+pub mod Issue
+pub mod MachineState
+pub mod Opening

@@ -1,0 +1,50 @@
+-- What a machine is begun with, and what of it a run never changes.
+use Rattle.std.specs.Prelude.{◌≡◌, ℕ, List, ◌++◌, ◌+◌, ◌*◌, ◌^◌, ◌<◌, ◌≤◌, length, slice_get, slice_range, IfSome}
+use Rattle.qpu_machine.specs.declared.plan.Region.{Region}
+
+pub record Planned : Type 0 where
+  pub words : List ℕ
+  pub qpus : ℕ
+  pub per : ℕ
+  -- per for each QPU in turn
+  pub uniforms : List ℕ
+  pub memory : List ℕ
+  pub buffers : List Region
+  pub scratch : List Region
+
+pub record Fixed : Type 0 where
+  pub code : List ℕ
+  pub uniforms : List ℕ
+  pub per : ℕ
+  pub buffers : List Region
+  pub scratch : List Region
+
+-- the byte at this address lies in the region
+abbrev pub Covers : ℕ → Region → Type 0
+Covers address region = (region.start ≤ address) × (address < region.start + region.len)
+
+-- each region lies in a memory of so many bytes
+abbrev pub LieIn : List Region → ℕ → Type 0
+LieIn regions size = (i : ℕ) → IfSome (slice_get regions i) (λ region. region.start + region.len ≤ size)
+
+-- no byte lies in two regions
+abbrev pub AreApart : List Region → Type 0
+AreApart regions =
+    (address i j : ℕ) → IfSome (slice_get regions i) (λ one. IfSome (slice_get regions j) (λ other. Covers address one → Covers address other → i ≡ j))
+
+-- a plan that a machine may be begun with
+pub record IsPlan (plan : Planned) : Type 0 where
+  pub some : 1 ≤ plan.qpus
+  pub few : plan.qpus ≤ 12
+  pub uniforms : length plan.uniforms ≡ plan.qpus * plan.per
+  pub scratch : length plan.scratch ≡ plan.qpus
+  pub code : 1 ≤ length plan.words
+  pub short : length plan.words ≤ 2 ^ 24
+  pub memory : length plan.memory < 2 ^ 32
+  pub buffers_within : LieIn plan.buffers (length plan.memory)
+  pub scratch_within : LieIn plan.scratch (length plan.memory)
+  pub apart : AreApart (plan.buffers ++ plan.scratch)
+
+-- the bytes of a region
+abbrev pub bytes_of : List ℕ → Region → List ℕ
+bytes_of memory region = slice_range memory region.start (region.start + region.len)

@@ -1,0 +1,69 @@
+//! What a machine is begun with.
+
+use std::marker::Model;
+
+/// Where bytes lie in the memory.
+#[derive(Clone, Copy, Debug, PartialEq, Eq)]
+pub struct Region {
+    pub start: u32,
+    pub len: u32,
+}
+
+/// The code, the number of QPUs, `per` uniforms for each QPU in turn, the memory, and the regions
+/// in it.
+#[derive(Drop)]
+pub struct Plan {
+    pub words: Vec<u64>,
+    pub qpus: u32,
+    pub per: u32,
+    pub uniforms: Vec<u32>,
+    pub memory: Vec<u8>,
+    pub buffers: Vec<Region>,
+    pub scratch: Vec<Region>,
+}
+
+impl Model for Plan {
+    ghost use Rattle.qpu_machine.specs.Planned.{Planned};
+
+    ghost Value = { Planned };
+
+    ghost view = { λ p. record {
+      words = p.words.items;
+      qpus = p.qpus;
+      per = p.per;
+      uniforms = p.uniforms.items;
+      memory = p.memory.items;
+      buffers = p.buffers.items;
+      scratch = p.scratch.items;
+    } };
+}
+
+/// What registers, accumulators and flags open with.
+#[derive(Clone, Copy, Debug, PartialEq, Eq)]
+pub enum Fill {
+    Zero,
+}
+
+/// What a run never changes.
+#[derive(Drop)]
+pub struct Fixed {
+    pub code: Vec<u64>,
+    pub uniforms: Vec<u32>,
+    pub per: u32,
+    pub buffers: Vec<Region>,
+    pub scratch: Vec<Region>,
+}
+
+impl Model for Fixed {
+    ghost use Rattle.qpu_machine.specs.Planned.{Fixed as Constant};
+
+    ghost Value = { Constant };
+
+    ghost view = { λ g. record {
+      code = g.code.items;
+      uniforms = g.uniforms.items;
+      per = g.per;
+      buffers = g.buffers.items;
+      scratch = g.scratch.items;
+    } };
+}
