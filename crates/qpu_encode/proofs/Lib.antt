@@ -1,1 +1,4 @@
 pub mod Alu
+pub mod Laws
+pub mod Replace
+pub mod RoundTrip

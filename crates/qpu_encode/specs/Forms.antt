@@ -1,4 +1,4 @@
--- Words and their typed forms (QPU chapter, ALU instructions).
+-- Words and their typed forms (Broadcom, VideoCore IV 3D Architecture Reference Guide, QPU chapter: ALU instructions).
 use Rattle.std.specs.Prelude.{ℕ, List, [], ◌∷◌, Bool, true, false, not, ◌&&◌, ◌==◌, if◌then◌else◌}
 use Rattle.std.specs.declared.option.Option.{Option}
 use Rattle.std.specs.declared.option.Option.TheVariants.{Some, None}
@@ -10,6 +10,7 @@ use Rattle.qpu_encode.specs.declared.form.Form.TheVariants.{Alu}
 use Rattle.qpu_encode.specs.Codes.{add_code, mul_code, cond_code, head_code, add_op_at, mul_op_at, cond_at, head_at}
 use Rattle.qpu_encode.specs.Fields.{join, fields_from}
 
+-- the bit of a flag
 abbrev pub bit : Bool → ℕ
 bit false = 0
 bit true = 1
@@ -19,7 +20,7 @@ bit true = 1
 abbrev pub alu_widths : List ℕ
 alu_widths = 3 ∷ 3 ∷ 3 ∷ 3 ∷ 6 ∷ 6 ∷ 5 ∷ 3 ∷ 6 ∷ 6 ∷ 1 ∷ 1 ∷ 3 ∷ 3 ∷ 4 ∷ 1 ∷ 3 ∷ 4 ∷ []
 
--- what a form has in them. pack and pm are 0
+-- what a form has in these fields; pack and pm are 0
 abbrev pub alu_values : Head → ℕ → AddPart → MulPart → Bool → Bool → ℕ → ℕ → List ℕ
 alu_values head unpack add mul flags swap ra rb =
     mul.b ∷ mul.a ∷ add.b ∷ add.a ∷ rb ∷ ra ∷ add_code add.op ∷ mul_code mul.op ∷ mul.dst ∷ add.dst ∷ bit swap ∷ bit flags
@@ -39,11 +40,13 @@ is_in_profile (Alu head unpack add mul flags swap ra rb) =
     (is_part add.dst add.a add.b && is_part mul.dst mul.a mul.b)
     && (((unpack == 0) && (not flags && not swap)) && ((ra == 39) && (rb == 39)))
 
+-- a step that needs the value before it
 infixl 10 ◌>>=◌
 abbrev pub ◌>>=◌ : {A B : Type 0} → Option A → (A → Option B) → Option B
 (Some x) >>= f = f x
 None >>= f = None
 
+-- the form, if the test holds and the form is in the profile
 abbrev pub kept : Bool → Form → Option Form
 kept test form = if test && is_in_profile form then Some form else None
 
@@ -66,3 +69,11 @@ alu_from _ = None
 -- the form of a word, None outside the profile
 unfoldable pub form_of : ℕ → Option Form
 form_of word = alu_from (fields_from 0 alu_widths word)
+
+-- the word of a plain nop, 0x100009E7009E7000
+abbrev pub nop_word : ℕ
+nop_word = 1152932392359325696
+
+-- the word of a program end without operations, 0x300009E7009E7000
+abbrev pub end_word : ℕ
+end_word = 3458775401573019648

@@ -1,5 +1,3 @@
 pub mod Fields
 pub mod Codes
 pub mod Forms
-pub mod Laws
-pub mod RoundTrip

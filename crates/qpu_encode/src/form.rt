@@ -27,7 +27,7 @@ pub enum Head {
 
 /// What the add unit does: its operation, the elements that it writes, the address that they go to
 /// and the selectors of its two operands.
-#[derive(Clone, Copy, Debug)]
+#[derive(Clone, Copy, Debug, PartialEq, Eq)]
 pub struct AddPart {
     pub op: AddOp,
     pub cond: Cond,
@@ -37,7 +37,7 @@ pub struct AddPart {
 }
 
 /// What the mul unit does.
-#[derive(Clone, Copy, Debug)]
+#[derive(Clone, Copy, Debug, PartialEq, Eq)]
 pub struct MulPart {
     pub op: MulOp,
     pub cond: Cond,
@@ -48,7 +48,7 @@ pub struct MulPart {
 
 /// The fields of a word by kind of word: `flags` is sf, `swap` is ws, `ra` and `rb` are the read
 /// addresses.
-#[derive(Clone, Copy, Debug)]
+#[derive(Clone, Copy, Debug, PartialEq, Eq)]
 pub enum Form {
     Alu {
         head: Head,

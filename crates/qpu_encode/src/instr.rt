@@ -4,7 +4,7 @@ use crate::form::Form;
 use std::marker::Model;
 
 /// An instruction: a form in the profile.
-#[derive(Clone, Copy)]
+#[derive(Clone, Copy, Debug, PartialEq, Eq)]
 pub struct Instr {
     pub form: Form,
 }

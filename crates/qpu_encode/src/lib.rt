@@ -14,3 +14,6 @@ pub use field::Field;
 pub use form::{AddOp, AddPart, Cond, Form, Head, MulOp, MulPart};
 pub use instr::Instr;
 pub use words::{decode, encode};
+
+#[cfg(test)]
+mod tests;

@@ -1,10 +1,9 @@
 //! Words both ways.
 
-ghost use Rattle.std.specs.Prelude.{get_or, false, true, ◌≡◌, ◌≢◌, ◌≤◌, ◌<◌, ◌+◌, ◌-◌, ◌*◌, ◌^◌, Some, IfSome, IfNone};
-ghost use Rattle.qpu_encode.specs.Fields.{field, fields_from, join};
-ghost use Rattle.qpu_encode.specs.Forms.{form_of, word_of, alu_from, alu_widths, alu_values, bit, is_in_profile};
+ghost use Rattle.std.specs.Prelude.{get_or, false, true, ◌≡◌, ◌≢◌, ◌≤◌, ◌<◌, ◌+◌, ◌-◌, ◌*◌, ◌^◌, ◌↔◌, ◌⊎◌, Some, IfSome, IfNone, IsSome};
+ghost use Rattle.qpu_encode.specs.Fields.{FitEach, field, fields_from, join};
+ghost use Rattle.qpu_encode.specs.Forms.{form_of, word_of, alu_from, alu_widths, alu_values, bit, is_in_profile, nop_word, end_word};
 ghost use Rattle.qpu_encode.specs.declared.form.Form.{Form};
-ghost use Rattle.qpu_encode.specs.Laws.{FitEach};
 
 use crate::codes::{
     add_code_of, cond_code_of, find_add_op, find_cond, find_head, find_mul_op, head_code_of,
@@ -124,6 +123,9 @@ fn form_by_fields(word: u64) -> Option<Instr>
 /// The instruction of a word; none exactly where the word is outside the profile.
 pub fn decode(word: u64) -> Option<Instr>
     ensures form { result ≡ form_of word }
+
+    // Two words have an instruction: a plain nop and a program end without operations.
+    ensures known { IsSome result ↔ ((word ≡ nop_word) ⊎ (word ≡ end_word)) }
 
     // The word is that of the instruction.
     ensures back { IfSome result (λ form. word_of form ≡ word) }

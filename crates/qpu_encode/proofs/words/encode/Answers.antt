@@ -1,6 +1,6 @@
 use Rattle.std.proofs.Common.{◌≡◌, ap, ◌∙◌, sym}
 use Rattle.qpu_encode.specs.Forms.{word_of, form_of}
-use Rattle.qpu_encode.specs.RoundTrip.{alu_fits, form_complete}
+use Rattle.qpu_encode.proofs.RoundTrip.{alu_fits, form_complete}
 use Rattle.qpu_encode.proofs.Alu.{is_alu}
 use Rattle.std.specs.Prelude.{Some}
 use Rattle.qpu_encode.specs.declared.form.Form.TheVariants.{Alu}

@@ -1,8 +1,8 @@
-use Rattle.std.proofs.Common.{rules, arith, ◌≡◌, ◌+◌, ◌-◌, ◌*◌, ◌/◌, ◌%◌, ◌^◌, ◌<◌, ◌≤◌, ℕ}
+use Rattle.std.proofs.Common.{rules, arith, ◌≡◌, ◌+◌, ◌-◌, ◌*◌, ◌%◌, ◌^◌, ◌<◌, ◌≤◌, ◌/◌, ℕ}
 use Rattle.std.proofs.Math.Nat.{mod-lt}
 use Rattle.std.proofs.lemmas.Nat.{shl_whole, pow_pos}
-use Rattle.qpu_encode.specs.Fields.{field, replaced}
-use Rattle.qpu_encode.specs.Laws.{replaced_fits}
+use Rattle.qpu_encode.specs.Fields.{field}
+use Rattle.qpu_encode.proofs.Replace.{replaced, replaced_here, replaced_below, replaced_above, replaced_fits}
 use Rattle.qpu_encode.proofs.field.Field.put.Goals as goal
 
 -- both shifts lose nothing
@@ -17,5 +17,17 @@ overflow_add-result g c =
     rw (same g.row.LO g.row.W c.args.word c.args.value c.get.result c.requires.within c.requires.fits c.get.ensures)
     (search (rules, replaced_fits g.row.LO g.row.W 64 c.args.word c.args.value (omega arith) c.requires.within c.requires.fits))
 
-pub returns : goal.returns
-returns g c = same g.row.LO g.row.W c.args.word c.args.value c.get.result c.requires.within c.requires.fits c.get.ensures
+pub returns-clause-here : goal.returns-clause-here
+returns-clause-here g c =
+    rw (same g.row.LO g.row.W c.args.word c.args.value c.get.result c.requires.within c.requires.fits c.get.ensures)
+    (replaced_here g.row.LO g.row.W c.args.word c.args.value c.requires.fits)
+
+pub returns-clause-below : goal.returns-clause-below
+returns-clause-below g c =
+    rw (same g.row.LO g.row.W c.args.word c.args.value c.get.result c.requires.within c.requires.fits c.get.ensures)
+    (replaced_below g.row.LO g.row.W c.args.word c.args.value)
+
+pub returns-clause-above : goal.returns-clause-above
+returns-clause-above g c =
+    rw (same g.row.LO g.row.W c.args.word c.args.value c.get.result c.requires.within c.requires.fits c.get.ensures)
+    (replaced_above g.row.LO g.row.W c.args.word c.args.value c.requires.fits)

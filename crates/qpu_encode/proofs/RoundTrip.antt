@@ -1,8 +1,8 @@
 -- A form is its word.
-use Rattle.std.specs.Prelude.{◌≡◌, ◌≢◌, ℕ, ◌/◌, ◌<◌, ◌^◌, List, [], ◌∷◌, Bool, true, false, cond, ◌&&◌, ◌==◌, nat_eq, if◌then◌else◌, refl, IfSome, IfNone}
+use Rattle.std.specs.Prelude.{◌≡◌, ◌≢◌, ℕ, ◌/◌, ◌<◌, ◌^◌, List, [], ◌∷◌, Bool, true, false, cond, ◌&&◌, ◌==◌, nat_eq, if◌then◌else◌, refl, IfSome, IfNone, IsSome, ◌↔◌, ◌⊎◌}
 use Rattle.std.specs.declared.option.Option.{Option}
 use Rattle.std.specs.declared.option.Option.TheVariants.{Some, None}
-use Rattle.std.proofs.Common.{arith, sym, ap, ◌∙◌, lit<}
+use Rattle.std.proofs.Common.{arith, sym, ap, subst, ◌∙◌, lit<, inl, inr}
 use Rattle.std.proofs.lemmas.Bool.Decides.{nat_tests}
 use Rattle.std.proofs.Math.Nat.{mod-lt, div-one}
 use Rattle.std.proofs.lemmas.Nat.{pow_pos}
@@ -19,9 +19,9 @@ use Rattle.qpu_encode.specs.declared.form.Head.TheVariants.{Plain, End}
 use Rattle.qpu_encode.specs.declared.form.Form.{Form}
 use Rattle.qpu_encode.specs.declared.form.Form.TheVariants.{Alu}
 use Rattle.qpu_encode.specs.Codes.{with_code, add_code, mul_code, cond_code, head_code, add_ops, mul_ops, conds, heads, add_op_at, mul_op_at, cond_at, head_at}
-use Rattle.qpu_encode.specs.Fields.{field, join, fields_from}
-use Rattle.qpu_encode.specs.Laws.{FitEach, fields_of_join, join_of_fields}
-use Rattle.qpu_encode.specs.Forms.{bit, alu_widths, alu_values, word_of, form_of, alu_from, ◌>>=◌, kept, is_in_profile}
+use Rattle.qpu_encode.specs.Fields.{FitEach, field, join, fields_from}
+use Rattle.qpu_encode.proofs.Laws.{fields_of_join, join_of_fields}
+use Rattle.qpu_encode.specs.Forms.{bit, alu_widths, alu_values, word_of, form_of, alu_from, ◌>>=◌, kept, is_in_profile, nop_word, end_word}
 
 -- ---- tables
 
@@ -125,6 +125,7 @@ alu_sound mul_b mul_a add_b add_a rb ra op_add op_mul waddr_mul waddr_add ws sf 
     let fine : is_in_profile f ≡ true = rw k.2 at k.1 in
     (rw (← k.2, head_sound sig s1.0 s1.1, add_sound op_add s2.0 s2.1, mul_sound op_mul s3.0 s3.1, cond_sound cond_add s4.0 s4.1, cond_sound cond_mul s5.0 s5.1, bit_is ws h1, bit_is sf h2, e0, e00) refl, fine)
 
+-- the fields of a form in the profile give that form
 pub alu_complete : (head : Head) (unpack : ℕ) (add : AddPart) (mul : MulPart) (flags swap : Bool) (ra rb : ℕ)
     → is_in_profile (Alu head unpack add mul flags swap ra rb) ≡ true
     → alu_from (alu_values head unpack add mul flags swap ra rb) ≡ Some (Alu head unpack add mul flags swap ra rb)
@@ -132,6 +133,7 @@ unfolding alu_from
 alu_complete head unpack add mul flags swap ra rb h =
     rw (head_again head, add_again add.op, mul_again mul.op, cond_again add.cond, cond_again mul.cond, bit_again flags, bit_again swap, h) refl
 
+-- the fields of a form in the profile fit their widths
 pub alu_fits : (head : Head) (unpack : ℕ) (add : AddPart) (mul : MulPart) (flags swap : Bool) (ra rb : ℕ)
     → is_in_profile (Alu head unpack add mul flags swap ra rb) ≡ true
     → FitEach alu_widths (alu_values head unpack add mul flags swap ra rb)
@@ -169,10 +171,60 @@ no_form word e f h same =
     let some : form_of word ≡ Some f = ap form_of (sym same) ∙ form_complete f h in
     cc
 
+-- a form is that of its word
 pub form_back : (word : ℕ) (r : Option Form) → word < 2 ^ 64 → r ≡ form_of word → IfSome r (λ form. word_of form ≡ word)
 form_back word (Some f) h e = (form_sound word f h (sym e)).0
 form_back word None h e = tt
 
+-- no form means no form in the profile with that word
 pub form_none : (word : ℕ) (r : Option Form) → r ≡ form_of word → IfNone r ((form : Form) → is_in_profile form ≡ true → word_of form ≢ word)
 form_none word (Some f) e = tt
 form_none word None e = no_form word (sym e)
+
+-- ---- the two words
+
+add_zero : (o : AddOp) → add_code o ≡ 0
+add_zero add_op.Nop = refl
+
+mul_zero : (o : MulOp) → mul_code o ≡ 0
+mul_zero mul_op.Nop = refl
+
+cond_zero : (o : Cond) → cond_code o ≡ 0
+cond_zero Never = refl
+
+-- with all other fields at rest, the signal alone decides the word
+head_word : (head : Head)
+    → (join alu_widths (0 ∷ 0 ∷ 0 ∷ 0 ∷ 39 ∷ 39 ∷ 0 ∷ 0 ∷ 39 ∷ 39 ∷ 0 ∷ 0 ∷ 0 ∷ 0 ∷ 0 ∷ 0 ∷ 0 ∷ head_code head ∷ []) ≡ nop_word)
+    ⊎ (join alu_widths (0 ∷ 0 ∷ 0 ∷ 0 ∷ 39 ∷ 39 ∷ 0 ∷ 0 ∷ 39 ∷ 39 ∷ 0 ∷ 0 ∷ 0 ∷ 0 ∷ 0 ∷ 0 ∷ 0 ∷ head_code head ∷ []) ≡ end_word)
+head_word Plain = inl refl
+head_word End = inr refl
+
+-- a form in the profile has one of the two words
+alu_known : (head : Head) (unpack : ℕ) (add : AddPart) (mul : MulPart) (flags swap : Bool) (ra rb : ℕ)
+    → is_in_profile (Alu head unpack add mul flags swap ra rb) ≡ true
+    → (word_of (Alu head unpack add mul flags swap ra rb) ≡ nop_word) ⊎ (word_of (Alu head unpack add mul flags swap ra rb) ≡ end_word)
+unfolding is_in_profile word_of
+alu_known head unpack add mul flags swap ra rb h =
+    let a : (add.dst ≡ 39) × (add.a ≡ 0) × (add.b ≡ 0) = grind (arith, nat_tests) in
+    let m : (mul.dst ≡ 39) × (mul.a ≡ 0) × (mul.b ≡ 0) = grind (arith, nat_tests) in
+    let u : (unpack ≡ 0) × (ra ≡ 39) × (rb ≡ 39) = grind (arith, nat_tests) in
+    let s : bit swap ≡ 0 = grind (arith, nat_tests, bit) in
+    let f : bit flags ≡ 0 = grind (arith, nat_tests, bit) in
+    rw (a.0, a.1, a.2, m.0, m.1, m.2, u.0, u.1, u.2, s, f, add_zero add.op, mul_zero mul.op, cond_zero add.cond, cond_zero mul.cond) (head_word head)
+
+-- the words that have a form are these two
+known_of : (word : ℕ) (r : Option Form) → word < 2 ^ 64 → r ≡ form_of word → IsSome r → (word ≡ nop_word) ⊎ (word ≡ end_word)
+known_of word (Some (Alu head unpack add mul flags swap ra rb)) h e some =
+    let s = form_sound word (Alu head unpack add mul flags swap ra rb) h (sym e) in
+    subst (λ (n : ℕ). (n ≡ nop_word) ⊎ (n ≡ end_word)) s.0 (alu_known head unpack add mul flags swap ra rb s.1)
+known_of word None h e some = cc
+
+-- these two words have a form
+of_known : (word : ℕ) (r : Option Form) → r ≡ form_of word → (word ≡ nop_word) ⊎ (word ≡ end_word) → IsSome r
+unfolding form_of alu_from add_op_at mul_op_at cond_at head_at is_in_profile
+of_known word r e (inl w) = rw (e, w) refl
+of_known word r e (inr w) = rw (e, w) refl
+
+-- exactly these two words have a form
+pub form_known : (word : ℕ) (r : Option Form) → word < 2 ^ 64 → r ≡ form_of word → IsSome r ↔ ((word ≡ nop_word) ⊎ (word ≡ end_word))
+form_known word r h e = (known_of word r h e, of_known word r e)
