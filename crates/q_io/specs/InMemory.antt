@@ -1,5 +1,5 @@
 -- What the objects in memory stand for.
-use Rattle.std.specs.Prelude.{ℕ, List, [], Some, option_map, Vec}
+use Rattle.std.specs.Prelude.{◌≡◌, ℕ, List, [], Some, option_map, Vec}
 use Rattle.std.specs.declared.alloc.Global.{Global}
 use Rattle.std.specs.Ordering.{nat_cmp}
 use Rattle.std.specs.Cmp.Lexicographic.{slice_cmp}
@@ -17,3 +17,11 @@ fresh_files tree = record { told = Some tree; read_faults = 0; write_faults = 0;
 
 abbrev pub fresh_sink : SinkState
 fresh_sink = record { told = Some []; faults = 0; shortages = 0 }
+
+-- no files of this type ever count a fault
+abbrev pub FilesNeverFail : {X : Type 0} → (X → FilesState) → Type 0
+FilesNeverFail {X} state = (files : X) → ((state files).read_faults ≡ 0) × ((state files).write_faults ≡ 0)
+
+-- no sink of this type ever counts a fault
+abbrev pub SinkNeverFails : {X : Type 0} → (X → SinkState) → Type 0
+SinkNeverFails {X} state = (sink : X) → (state sink).faults ≡ 0

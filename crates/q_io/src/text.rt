@@ -1,4 +1,4 @@
-//! A list of bytes that a contract sees as that list.
+//! Names as keys of a map.
 ghost use Rattle.std.specs.Prelude.{◌≡◌, IfOk, Some, nat_eq, refl};
 ghost use Rattle.std.specs.Ordering.{nat_cmp};
 ghost use Rattle.std.specs.Cmp.{partial_equiv_from_equiv};
@@ -8,7 +8,7 @@ use std::alloc::{AllocError, Global};
 use std::cmp::Ordering;
 use std::marker::Model;
 
-/// Bytes of a name.
+/// A list of bytes, as a name. It need not be UTF-8, and is ordered byte by byte.
 #[derive(Drop)]
 pub struct Text {
     bytes: Vec<u8>,
@@ -30,6 +30,7 @@ impl Text {
         Text { bytes }
     }
 
+    /// Copies the bytes. Fails only where no memory is left.
     pub fn from_slice(alloc: Global, bytes: &[u8]) -> Result<Text, AllocError>
         ensures { IfOk result (λ text. text ≡ bytes.now) }
     {
@@ -38,6 +39,7 @@ impl Text {
         })
     }
 
+    /// The bytes of the name.
     pub fn as_bytes(&self) -> &[u8]
         ensures { result.now ≡ self.now }
     {
