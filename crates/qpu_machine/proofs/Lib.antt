@@ -1,3 +1,4 @@
 pub mod Steps
+pub mod Nothing
 pub mod Runs
 pub mod Opened

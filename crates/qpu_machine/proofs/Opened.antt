@@ -1,9 +1,8 @@
 -- QPUs that open alike.
-use Rattle.std.specs.Prelude.{◌≡◌, ℕ, List, ◌∷◌, map, replicate, refl, suc, zero}
+use Rattle.std.specs.Prelude.{◌≡◌, ℕ, ◌∷◌, map, replicate, refl, suc, zero}
 use Rattle.std.proofs.Common.{ap}
 use Rattle.qpu_machine.specs.declared.plan.Fill.{Fill}
 use Rattle.qpu_machine.specs.declared.plan.Fill.TheVariants.{Zero}
-use Rattle.qpu_machine.specs.declared.state.Regs.{Regs}
 use Rattle.qpu_machine.specs.Opening.{opening_qpu, zero_regs, regs_of}
 
 alike : {A B : Type 0} (f : A → B) (x : A) (n : ℕ) → replicate n (f x) ≡ map f (replicate n x)

@@ -1,8 +1,6 @@
 -- Whole runs.
 use Rattle.std.specs.Prelude.{◌≡◌, ◌≢◌, List, [], ◌∷◌, ◌++◌, length, refl}
 use Rattle.std.proofs.Common.{ap, sym, ◌∙◌, subst}
-use Rattle.qpu_machine.specs.declared.state.Effect.{Effect}
-use Rattle.qpu_machine.specs.declared.state.Effect.TheVariants as effect
 use Rattle.qpu_machine.specs.declared.state.Stop.TheVariants as stop
 use Rattle.qpu_machine.specs.declared.state.Step.{Step}
 use Rattle.qpu_machine.specs.MachineState.{MachineState, IsIdle, happens, stop_of, machine_run}

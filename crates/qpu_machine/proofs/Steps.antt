@@ -1,9 +1,8 @@
 -- One step.
-use Rattle.std.specs.Prelude.{◌≡◌, ◌≢◌, ◌<◌, ℕ, List, [], ◌∷◌, Bool, true, false, length, slice_get, slice_set, is_some, if◌then◌else◌, map, replicate, refl, suc, zero, ⊤, IfSome}
-use Rattle.std.specs.List.{list_all}
+use Rattle.std.specs.Prelude.{◌≡◌, ◌≢◌, ◌<◌, ℕ, List, Bool, true, false, length, slice_get, slice_set, is_some, if◌then◌else◌, refl}
 use Rattle.std.specs.declared.option.Option.{Option}
 use Rattle.std.specs.declared.option.Option.TheVariants.{Some, None}
-use Rattle.std.proofs.Common.{ap, sym, ◌∙◌, subst, get_or}
+use Rattle.std.proofs.Common.{ap, sym, ◌∙◌, get_or}
 use Rattle.std.proofs.lemmas.List.{set-get_or, length-set}
 use Rattle.std.proofs.lemmas.Option.{get_or_from_slice_get, slice_get_within}
 use Rattle.std.proofs.lemmas.List.Folds.{list_all_at}
@@ -18,7 +17,7 @@ use Rattle.qpu_machine.specs.declared.state.Qpu.{Qpu}
 use Rattle.qpu_machine.specs.declared.state.Counts.{Counts}
 use Rattle.qpu_machine.specs.declared.state.Fault.{Fault}
 use Rattle.qpu_machine.specs.Issue.{Local, local, judged, idle, done, fetched, least_broken}
-use Rattle.qpu_machine.specs.MachineState.{MachineState, Next, IsIdle, fault_after, turn, turn_at, turned, issue_step, move_step, step_of, happens, stop_of, stop_at, all_ended}
+use Rattle.qpu_machine.specs.MachineState.{MachineState, IsIdle, fault_after, turn, turn_at, turned, issue_step, move_step, step_of, happens, stop_of, stop_at, all_ended}
 
 judged_idle : (r : Option Rule) (k : ℕ) (word : Option Form) (q : Qpu) (c : Counts) → IsIdle (judged r k word q c).effect → judged r k word q c ≡ idle q c (judged r k word q c).effect
 unfolding done
@@ -119,7 +118,7 @@ ended_at qpus k q all e =
           cc
     ] refl
 
-local_ended : (code : List ℕ) (k : ℕ) (q : Qpu) (c : Counts) → q.flow.ended ≡ true → (local code k q c).effect ≡ effect.Nothing
+pub local_ended : (code : List ℕ) (k : ℕ) (q : Qpu) (c : Counts) → q.flow.ended ≡ true → (local code k q c).effect ≡ effect.Nothing
 unfolding local
 local_ended code k q c e = rw e refl
 

@@ -1,8 +1,8 @@
 -- One issue: what the next word of one QPU does to it and to the counts.
+-- What a program end does is said by Broadcom's VideoCore IV 3D Architecture Reference Guide, in its chapter on the QPU. The counts, and the stop at a broken restriction, are definitions of this project.
 use Rattle.std.specs.Prelude.{ℕ, ◌+◌, ◌-◌, ◌%◌, ◌^◌, List, Bool, true, false, if◌then◌else◌, nat_lt, ◌==◌, ◌&&◌, min, slice_get}
 use Rattle.std.specs.declared.option.Option.{Option}
 use Rattle.std.specs.declared.option.Option.TheVariants.{Some, None}
-use Rattle.qpu_encode.specs.declared.form.Head.{Head}
 use Rattle.qpu_encode.specs.declared.form.Head.TheVariants.{Plain, End}
 use Rattle.qpu_encode.specs.declared.form.Form.{Form}
 use Rattle.qpu_encode.specs.declared.form.Form.TheVariants.{Alu}
@@ -15,10 +15,11 @@ use Rattle.qpu_machine.specs.declared.state.Flow.{Flow}
 use Rattle.qpu_machine.specs.declared.state.Qpu.{Qpu}
 use Rattle.qpu_machine.specs.declared.state.Counts.{Counts}
 
--- a count stays at its last value
+-- one more, but a count stays at its last value
 abbrev pub one_more : ℕ → ℕ
 one_more count = min (count + 1) (2 ^ 64 - 1)
 
+-- the form of the word that was found
 abbrev pub form_at : Option ℕ → Option Form
 form_at None = None
 form_at (Some word) = form_of word
@@ -27,6 +28,7 @@ form_at (Some word) = form_of word
 unfoldable pub fetched : List ℕ → ℕ → Option Form
 fetched code place = form_at (slice_get code place)
 
+-- a program end, by its signal
 abbrev pub is_end : Form → Bool
 is_end (Alu Plain unpack add mul flags swap ra rb) = false
 is_end (Alu End unpack add mul flags swap ra rb) = true
@@ -36,7 +38,7 @@ unfoldable pub least_broken : Option Form → Flow → Option Rule
 least_broken None flow = Some H0
 least_broken (Some form) flow = if is_end form && nat_lt 0 flow.ending then Some H0 else None
 
--- where a QPU is after a word: after a program end two more words are done, and then it has ended
+-- where a QPU is after a word. A program end has two delay slots: two more words are done, and then the QPU has ended. A place is a word number modulo 2 ^ 32
 unfoldable pub flow_after : Form → Flow → Flow
 flow_after form flow =
     record {
@@ -61,16 +63,17 @@ done form q c =
       effect = effect.Did;
     }
 
+-- nothing is changed
 abbrev pub idle : Qpu → Counts → Effect → Local
 idle q c what = record { qpu = q; counts = c; effect = what }
 
--- a broken word is not done
+-- a word that breaks a restriction is not done: the place stays at it, and it is not counted. A word that is none breaks H0, so that the second case never comes
 abbrev pub judged : Option Rule → ℕ → Option Form → Qpu → Counts → Local
 judged (Some rule) k word q c = idle q c (effect.Broken rule k q.flow.place)
 judged None k None q c = idle q c effect.Nothing
 judged None k (Some form) q c = done form q c
 
--- an issue of QPU k: one that has ended does nothing
+-- an issue of QPU k, as one atomic step: one that has ended does nothing
 unfoldable pub local : List ℕ → ℕ → Qpu → Counts → Local
 local code k q c =
     if q.flow.ended then idle q c effect.Nothing

@@ -1,5 +1,5 @@
--- The state of the whole machine, its steps and its runs.
-use Rattle.std.specs.Prelude.{ℕ, List, [], ◌∷◌, Bool, true, false, if◌then◌else◌, slice_get, slice_set, is_some, get_or, ⊤}
+-- The state of the whole machine, its steps and its runs. Steps are atomic, so that every interleaving of the QPUs is a list of steps.
+use Rattle.std.specs.Prelude.{◌≡◌, ℕ, List, [], ◌∷◌, Bool, true, false, if◌then◌else◌, slice_get, slice_set, is_some, get_or, ⊤}
 use Rattle.std.specs.List.{list_all}
 use Rattle.std.specs.declared.option.Option.{Option}
 use Rattle.std.specs.declared.option.Option.TheVariants.{Some, None}
@@ -16,6 +16,7 @@ use Rattle.qpu_machine.specs.declared.state.Fault.{Fault}
 use Rattle.qpu_machine.specs.Planned.{Fixed}
 use Rattle.qpu_machine.specs.Issue.{local}
 
+-- the state
 pub record MachineState : Type 0 where
   pub fixed : Fixed
   pub qpus : List Qpu
@@ -24,7 +25,7 @@ pub record MachineState : Type 0 where
   -- the restriction that stopped the run
   pub broken : Option Fault
 
--- nothing was done
+-- the answers after which all is as before
 abbrev pub IsIdle : Effect → Type 0
 IsIdle effect.Nothing = ⊤
 IsIdle effect.Stalled = ⊤
@@ -37,6 +38,7 @@ pub record Next : Type 0 where
   pub state : MachineState
   pub effect : Effect
 
+-- the restriction that stops the run, after a step that answered this
 abbrev pub fault_after : Effect → Option Fault → Option Fault
 fault_after (effect.Broken rule k place) old = Some (record { rule = rule; qpu = k; place = place })
 fault_after effect.Did old = old
@@ -50,6 +52,7 @@ pub record Turn : Type 0 where
   pub counts : Counts
   pub effect : Effect
 
+-- the same, where QPU k is this one
 abbrev pub turn_at : List ℕ → List Qpu → Counts → ℕ → Option Qpu → Turn
 turn_at code qpus c k None = record { qpus = qpus; counts = c; effect = effect.Nothing }
 turn_at code qpus c k (Some q) = record { qpus = slice_set qpus k (local code k q c).qpu; counts = (local code k q c).counts; effect = (local code k q c).effect }
@@ -58,6 +61,7 @@ turn_at code qpus c k (Some q) = record { qpus = slice_set qpus k (local code k 
 unfoldable pub turn : List ℕ → List Qpu → Counts → ℕ → Turn
 turn code qpus c k = turn_at code qpus c k (slice_get qpus k)
 
+-- the state after an issue
 abbrev pub turned : MachineState → Turn → Next
 turned s t = record { state = record s { qpus = t.qpus; counts = t.counts; broken = fault_after t.effect s.broken }; effect = t.effect }
 
@@ -68,25 +72,39 @@ issue_step s k = turned s (turn s.fixed.code s.qpus s.counts k)
 unfoldable pub move_step : MachineState → ℕ → Next
 move_step s i = record { state = s; effect = effect.Nothing }
 
+-- one step of a machine that goes on
 abbrev pub step_of : MachineState → Step → Next
 step_of s (Issue k) = issue_step s k
 step_of s (Load i) = move_step s i
 step_of s (Store i) = move_step s i
 
--- one step of the system: nothing happens after a broken restriction
+-- one step of the system: nothing happens after a broken restriction. Where all QPUs have ended nothing happens either, by `issue_step` and `move_step`
 unfoldable pub happens : MachineState → Step → Next
 happens s step = if is_some s.broken then record { state = s; effect = effect.Nothing } else step_of s step
 
--- a run of a list of steps
+-- the QPU isn't there or has ended
+abbrev pub IsGone : Option Qpu → Type 0
+IsGone None = ⊤
+IsGone (Some q) = q.flow.ended ≡ true
+
+-- the step finds nothing to do: its QPU isn't there or has ended, or its engine has no element left, as ever
+abbrev pub HasNothing : MachineState → Step → Type 0
+HasNothing s (Issue k) = IsGone (slice_get s.qpus k)
+HasNothing s (Load i) = ⊤
+HasNothing s (Store i) = ⊤
+
+-- a run of a list of steps, in their order. Where it stops, the steps that are left change nothing
 unfoldable pub machine_run : List Step → MachineState → MachineState
 machine_run [] s = s
 machine_run (step ∷ steps) s = machine_run steps (happens s step).state
 
+-- a broken restriction comes first
 abbrev pub stop_at : Option Fault → Bool → Stop
 stop_at (Some fault) over = stop.Broken fault.rule fault.qpu fault.place
 stop_at None true = stop.Finished
 stop_at None false = stop.Going
 
+-- all QPUs have ended
 abbrev pub all_ended : List Qpu → Bool
 all_ended qpus = list_all (λ q. q.flow.ended) qpus
 

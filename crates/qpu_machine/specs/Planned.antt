@@ -1,17 +1,21 @@
--- What a machine is begun with, and what of it a run never changes.
+-- What a machine is begun with, and what of it a run never changes. The memory is one list of bytes, and code and uniforms lie outside it.
 use Rattle.std.specs.Prelude.{◌≡◌, ℕ, List, ◌++◌, ◌+◌, ◌*◌, ◌^◌, ◌<◌, ◌≤◌, length, slice_get, slice_range, IfSome}
 use Rattle.qpu_machine.specs.declared.plan.Region.{Region}
 
+-- a plan
 pub record Planned : Type 0 where
+  -- the code, which all QPUs run from word 0 on
   pub words : List ℕ
   pub qpus : ℕ
+  -- how many uniforms each QPU has; those of QPU 0 come first
   pub per : ℕ
-  -- per for each QPU in turn
   pub uniforms : List ℕ
   pub memory : List ℕ
   pub buffers : List Region
+  -- one for each QPU
   pub scratch : List Region
 
+-- what of a plan a run never changes
 pub record Fixed : Type 0 where
   pub code : List ℕ
   pub uniforms : List ℕ
@@ -27,12 +31,12 @@ Covers address region = (region.start ≤ address) × (address < region.start + 
 abbrev pub LieIn : List Region → ℕ → Type 0
 LieIn regions size = (i : ℕ) → IfSome (slice_get regions i) (λ region. region.start + region.len ≤ size)
 
--- no byte lies in two regions
+-- no byte lies in two regions; an empty region covers none
 abbrev pub AreApart : List Region → Type 0
 AreApart regions =
     (address i j : ℕ) → IfSome (slice_get regions i) (λ one. IfSome (slice_get regions j) (λ other. Covers address one → Covers address other → i ≡ j))
 
--- a plan that a machine may be begun with
+-- a plan that a machine may be begun with: for each QPU its uniforms and one scratch region, and regions that are disjoint and lie in the memory. A VideoCore IV has up to twelve QPUs
 pub record IsPlan (plan : Planned) : Type 0 where
   pub some : 1 ≤ plan.qpus
   pub few : plan.qpus ≤ 12

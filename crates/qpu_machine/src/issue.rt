@@ -22,7 +22,13 @@ fn fetch(code: &[u64], place: u32) -> Option<Form>
 fn ends(form: &Form) -> bool
     ensures { result ≡ is_end form.now }
 {
-    matches!(form, Form::Alu { head: Head::End, .. })
+    matches!(
+        form,
+        Form::Alu {
+            head: Head::End,
+            ..
+        }
+    )
 }
 
 #[tactic(auto, unfolding(crate::specs::Issue::least_broken))]

@@ -15,3 +15,6 @@ pub use lanes::Lanes;
 pub use machine::Machine;
 pub use plan::{Fill, Plan, Region};
 pub use state::{Counts, Effect, QpuView, Rule, Step, Stop};
+
+#[cfg(test)]
+mod tests;

@@ -1,9 +1,9 @@
 //! The machine.
 
-ghost use Rattle.std.specs.Prelude.{◌≡◌, ◌≢◌, ◌<◌, IfOk, IfSome, length, slice_get};
+ghost use Rattle.std.specs.Prelude.{◌≡◌, ◌≢◌, ◌<◌, ◌⊎◌, ◌↔◌, IfOk, IfSome, length, slice_get};
 ghost use Rattle.qpu_machine.specs.Planned.{IsPlan, bytes_of};
 ghost use Rattle.qpu_machine.specs.Opening.{opening, regs_of};
-ghost use Rattle.qpu_machine.specs.MachineState.{turn, happens, stop_of, all_ended, stop_at, fault_after, view_of, IsIdle};
+ghost use Rattle.qpu_machine.specs.MachineState.{turn, happens, stop_of, all_ended, stop_at, fault_after, view_of, IsIdle, HasNothing};
 
 use crate::issue::issue;
 use crate::opening::open_qpus;
@@ -156,6 +156,11 @@ impl Machine {
 
         // After `Nothing` and `Stalled` all is as before.
         ensures idle { IsIdle result → self.new ≡ self.old }
+
+        // Nothing is done exactly where the machine has stopped, the QPU isn't there or has ended,
+        // or the engine has no element left.
+        ensures nothing { (result ≡ Effect.Nothing)
+            ↔ ((stop_of self.old ≢ Stop.Going) ⊎ HasNothing self.old step) }
 
         // On a machine that has stopped nothing happens.
         ensures stopped { stop_of self.old ≢ Stop.Going → result ≡ Effect.Nothing }
