@@ -1,0 +1,86 @@
+-- Each status that a run of a plan ends with has its cause.
+use Rattle.std.proofs.Common.{◌≡◌, inl, inr, ℕ, Bool, true, false, List, sym, subst, arith}
+use Rattle.q_io.specs.FilesMeaning.{FilesState, FilesCountsStay}
+use Rattle.q_io.specs.SinkMeaning.{SinkState, PutsAll}
+use Rattle.q_io.specs.declared.Put.{Put}
+use Rattle.q_io.specs.declared.Put.TheVariants.{Done as WasPut, Failed as PutFailed, Memory as PutShort}
+use Rattle.vc4c_core.specs.Lines.{Says, status_after, trouble_status}
+use Rattle.vc4c_core.specs.Plan.{Plan, reads, commits, answers, Answer, done, bad_module, bad_launch, broken, unfinished, status_of, Ends, ReadTrouble}
+use Rattle.vc4c_core.specs.Causes.{EndCause}
+use Rattle.vc4c_core.specs.declared.status.Status.{Status}
+use Rattle.vc4c_core.specs.declared.status.Status.TheVariants.{Done, Memory, Usage, ReadFault, WriteFault, Missing, TooLong, Refused, BadModule, BadLaunch, Broken, Unfinished, NotSafe}
+use Rattle.vc4c_core.specs.declared.places.Trouble.{Trouble}
+use Rattle.vc4c_core.specs.declared.places.Trouble.TheVariants.{Missing as IsMissing, TooLong as IsTooLong, ReadFault as IsReadFault, Memory as IsMemory}
+
+-- what rose in a part of the run rose in the whole
+earlier : (asks : Bool) (first before now : FilesState) (out_before out_now : SinkState) (status : Status) → FilesCountsStay first before → EndCause asks before out_before now out_now status → EndCause asks first out_before now out_now status
+earlier asks first before now out_before out_now Done h c = tt
+earlier asks first before now out_before out_now Memory h (inl c) = inl c
+earlier asks first before now out_before out_now Memory h (inr (inl c)) = inr (inl (omega arith))
+earlier asks first before now out_before out_now Memory h (inr (inr c)) = inr (inr c)
+earlier asks first before now out_before out_now Usage h c = c
+earlier asks first before now out_before out_now ReadFault h c = omega arith
+earlier asks first before now out_before out_now WriteFault h (inl c) = inl (omega arith)
+earlier asks first before now out_before out_now WriteFault h (inr c) = inr c
+earlier asks first before now out_before out_now Missing h c = omega arith
+earlier asks first before now out_before out_now TooLong h c = omega arith
+earlier asks first before now out_before out_now Refused h c = tt
+earlier asks first before now out_before out_now BadModule h c = tt
+earlier asks first before now out_before out_now BadLaunch h c = tt
+earlier asks first before now out_before out_now Broken h c = tt
+earlier asks first before now out_before out_now Unfinished h c = tt
+earlier asks first before now out_before out_now NotSafe h c = tt
+
+no_longer_asks : (asks : Bool) (before now : FilesState) (out_before out_now : SinkState) (status : Status) → EndCause false before out_before now out_now status → EndCause asks before out_before now out_now status
+no_longer_asks asks before now out_before out_now Done c = tt
+no_longer_asks asks before now out_before out_now Memory (inl c) = absurd (cc)
+no_longer_asks asks before now out_before out_now Memory (inr c) = inr c
+no_longer_asks asks before now out_before out_now Usage c = c
+no_longer_asks asks before now out_before out_now ReadFault c = c
+no_longer_asks asks before now out_before out_now WriteFault c = c
+no_longer_asks asks before now out_before out_now Missing c = c
+no_longer_asks asks before now out_before out_now TooLong c = c
+no_longer_asks asks before now out_before out_now Refused c = tt
+no_longer_asks asks before now out_before out_now BadModule c = tt
+no_longer_asks asks before now out_before out_now BadLaunch c = tt
+no_longer_asks asks before now out_before out_now Broken c = tt
+no_longer_asks asks before now out_before out_now Unfinished c = tt
+no_longer_asks asks before now out_before out_now NotSafe c = tt
+
+answer_caused : (asks : Bool) (before now : FilesState) (out_before out_now : SinkState) (answer : Answer) → EndCause asks before out_before now out_now (status_of answer)
+answer_caused asks before now out_before out_now done = tt
+answer_caused asks before now out_before out_now bad_module = tt
+answer_caused asks before now out_before out_now bad_launch = tt
+answer_caused asks before now out_before out_now broken = tt
+answer_caused asks before now out_before out_now unfinished = tt
+
+put_caused : (asks : Bool) (before now : FilesState) (out_before out_now : SinkState) (line : List ℕ) (status : Status) (put : Put) → PutsAll out_before out_now line put → EndCause asks before out_before now out_now status → EndCause asks before out_before now out_now (status_after put status)
+put_caused asks before now out_before out_now line status WasPut taken c = c
+put_caused asks before now out_before out_now line status PutFailed taken c = inr taken.0
+put_caused asks before now out_before out_now line status PutShort taken c = inr (inr taken.0)
+
+says_caused : (asks : Bool) (before now : FilesState) (out_before out_now : SinkState) (line : List ℕ) (status result : Status) → Says out_before out_now line status result → EndCause asks before out_before now out_now status → EndCause asks before out_before now out_now result
+says_caused asks before now out_before out_now line status result says c =
+    subst (λ s. EndCause asks before out_before now out_now s) (sym says.is) (put_caused asks before now out_before out_now line status says.put says.taken c)
+
+read_caused : (asks : Bool) (before now : FilesState) (out_before out_now : SinkState) (name : List ℕ) (limit : ℕ) (trouble : Trouble) → ReadTrouble before now name limit trouble → EndCause asks before out_before now out_now (trouble_status trouble)
+read_caused asks before now out_before out_now name limit IsMissing c = c.0
+read_caused asks before now out_before out_now name limit IsTooLong c = c.0
+read_caused asks before now out_before out_now name limit IsReadFault c = c
+read_caused asks before now out_before out_now name limit IsMemory c = inr (inl c)
+
+gave_up : (asks : Bool) (before now : FilesState) (out_before out_now : SinkState) (result : Status) → asks ≡ true → result ≡ Memory → EndCause asks before out_before now out_now result
+gave_up asks before now out_before out_now result may e = subst (λ s. EndCause asks before out_before now out_now s) (sym e) (inl may)
+
+pub ends_caused : (asks : Bool) (plan : Plan) (before : FilesState) (out_before : SinkState) (now : FilesState) (out_now : SinkState) (result : Status) → Ends asks plan before out_before now out_now result → EndCause asks before out_before now out_now result
+ends_caused asks (reads name limit next) before out_before now out_now result (inl h) = gave_up asks before now out_before out_now result h.may h.is
+ends_caused asks (reads name limit next) before out_before now out_now result (inr (inl h)) =
+    says_caused asks before now out_before out_now _ _ result h.says (read_caused asks before now out_before out_now name limit h.trouble h.cause)
+ends_caused asks (reads name limit next) before out_before now out_now result (inr (inr h)) =
+    earlier asks before h.1 now out_before out_now result h.2.counts (ends_caused asks (next h.0) h.1 out_before now out_now result h.3)
+ends_caused asks (commits next) before out_before now out_now result (inl h) = gave_up asks before now out_before out_now result h.may h.is
+ends_caused asks (commits next) before out_before now out_now result (inr h) =
+    no_longer_asks asks before now out_before out_now result (ends_caused false next before out_before now out_now result h)
+ends_caused asks (answers answer line) before out_before now out_now result (inl h) = gave_up asks before now out_before out_now result h.may h.is
+ends_caused asks (answers answer line) before out_before now out_now result (inr h) =
+    says_caused asks before now out_before out_now _ _ result h.1 (answer_caused asks before now out_before out_now answer)

@@ -1,0 +1,145 @@
+-- The clauses of the top call, from a run of the places.
+use Rattle.std.proofs.Common.{◌≡◌, ◌⊎◌, inl, inr, ℕ, Bool, true, false, List, refl, sym, ap, ◌∙◌, subst}
+use Rattle.std.specs.Prelude.{Option, Some, None, IfSome}
+use Rattle.q_io.specs.Rose.{Rose}
+use Rattle.q_io.specs.FilesMeaning.{Tree, FilesState}
+use Rattle.q_io.specs.SinkMeaning.{SinkState, PutsAll}
+use Rattle.q_io.specs.declared.Put.{Put}
+use Rattle.q_io.specs.declared.Put.TheVariants.{Done as WasPut, Failed as PutFailed, Memory as PutShort}
+use Rattle.vc4c_core.specs.Lines.{Says, status_after, trouble_status}
+use Rattle.vc4c_core.specs.Plan.{Plan, reads, commits, answers, Ends}
+use Rattle.vc4c_core.specs.Due.{Place, read, commit, Due, EndsAsDue, StoppedAt, IsQuiet}
+use Rattle.vc4c_core.specs.Commands.{Runs, due_for, usage_line}
+use Rattle.vc4c_core.specs.Causes.{EndCause}
+use Rattle.vc4c_core.proofs.EndsAsDue.{ends_as_due}
+use Rattle.vc4c_core.proofs.Caused.{ends_caused}
+use Rattle.vc4c_core.specs.declared.status.Status.{Status}
+use Rattle.vc4c_core.specs.declared.status.Status.TheVariants.{Memory, Usage, ReadFault, WriteFault, Missing, TooLong}
+use Rattle.vc4c_core.specs.declared.places.Trouble.{Trouble}
+use Rattle.vc4c_core.specs.declared.places.Trouble.TheVariants.{Memory as IsMemory}
+
+if_told : (told : Option Tree) (P : Tree → Type 0) → ((tree : Tree) → told ≡ Some tree → P tree) → IfSome told P
+if_told None P h = tt
+if_told (Some tree) P h = h tree refl
+
+runs_due_at : (plan : Option Plan) (tree : Tree) (before : FilesState) (out_before : SinkState) (now : FilesState) (out_now : SinkState) (result : Status)
+    → before.told ≡ Some tree → Runs plan before out_before now out_now result
+    → EndsAsDue true (due_for plan tree) tree before out_before now out_now result
+runs_due_at None tree before out_before now out_now result told h = inl (record { files = ap (λ f. f.told) h.0 ∙ told; says = h.1 })
+runs_due_at (Some plan) tree before out_before now out_now result told h = ends_as_due true plan tree before out_before now out_now result told h
+
+pub runs_due : (plan : Option Plan) (before : FilesState) (out_before : SinkState) (now : FilesState) (out_now : SinkState) (result : Status)
+    → Runs plan before out_before now out_now result
+    → IfSome before.told (λ tree. EndsAsDue true (due_for plan tree) tree before out_before now out_now result)
+runs_due plan before out_before now out_now result h = if_told before.told _ (λ tree told. runs_due_at plan tree before out_before now out_now result told h)
+
+-- the status after a line where the sink has no fault
+put_quiet : (before now : SinkState) (line : List ℕ) (status : Status) (put : Put) → ¬ (Rose before.faults now.faults) → PutsAll before now line put → (status_after put status ≡ status) ⊎ (status_after put status ≡ Memory)
+put_quiet before now line status WasPut q taken = inl refl
+put_quiet before now line status PutFailed q taken = absurd (q taken.0)
+put_quiet before now line status PutShort q taken = inr refl
+
+says_quiet : (before now : SinkState) (line : List ℕ) (status result : Status) → ¬ (Rose before.faults now.faults) → Says before now line status result → (result ≡ status) ⊎ (result ≡ Memory)
+says_quiet before now line status result q says =
+    elim (put_quiet before now line status says.put q says.taken) [ inl e ↦ inl (says.is ∙ e) | inr e ↦ inr (says.is ∙ e) ]
+
+says_short : (before now : SinkState) (line : List ℕ) (trouble : Trouble) (result : Status) → ¬ (Rose before.faults now.faults) → trouble ≡ IsMemory → Says before now line (trouble_status trouble) result → result ≡ Memory
+says_short before now line trouble result q e says =
+    elim (says_quiet before now line (trouble_status trouble) result q says) [ inl s ↦ s ∙ ap trouble_status e | inr s ↦ s ]
+
+fault_quiet : (place : Place) (before now : FilesState) (out_before out_now : SinkState) (line : List ℕ) (trouble : Trouble) (result : Status)
+    → IsQuiet before out_before now out_now → StoppedAt place before now trouble → Says out_before out_now line (trouble_status trouble) result → result ≡ Memory
+fault_quiet (read name) before now out_before out_now line trouble result q h says =
+    elim h [ inl rose ↦ absurd (q.reads rose.1) | inr short ↦ says_short out_before out_now line trouble result q.sink short.0 says ]
+fault_quiet commit before now out_before out_now line trouble result q h says = absurd h
+
+due_quiet : (asks : Bool) (due : Due) (tree : Tree) (before : FilesState) (out_before : SinkState) (now : FilesState) (out_now : SinkState) (result : Status)
+    → EndsAsDue asks due tree before out_before now out_now result → IsQuiet before out_before now out_now → (result ≡ due.status) ⊎ (result ≡ Memory)
+due_quiet asks due tree before out_before now out_now result (inl h) q = says_quiet out_before out_now due.line due.status result q.sink h.says
+due_quiet asks due tree before out_before now out_now result (inr (inl h)) q = inr (fault_quiet h.place before now out_before out_now _ h.trouble result q h.stopped h.says)
+due_quiet asks due tree before out_before now out_now result (inr (inr h)) q = inr h.is
+
+pub runs_quiet : (plan : Option Plan) (before : FilesState) (out_before : SinkState) (now : FilesState) (out_now : SinkState) (result : Status)
+    → Runs plan before out_before now out_now result
+    → IfSome before.told (λ tree. IsQuiet before out_before now out_now → (result ≡ (due_for plan tree).status) ⊎ (result ≡ Memory))
+runs_quiet plan before out_before now out_now result h =
+    if_told before.told _ (λ tree told quiet.
+    due_quiet true (due_for plan tree) tree before out_before now out_now result (runs_due_at plan tree before out_before now out_now result told h) quiet)
+
+-- Usage only where the words are of no form
+pub runs_usage : (plan : Option Plan) (before : FilesState) (out_before : SinkState) (now : FilesState) (out_now : SinkState) (result : Status) → Runs plan before out_before now out_now result → result ≡ Usage → plan ≡ None
+runs_usage None before out_before now out_now result h e = refl
+runs_usage (Some plan) before out_before now out_now result h e =
+    absurd (subst (λ s. EndCause true before out_before now out_now s) e (ends_caused true plan before out_before now out_now result h))
+
+-- the cause of each status but Usage
+usage_caused : (before now : FilesState) (out_before out_now : SinkState) (line : List ℕ) (put : Put) (P : Status → Type 0) → P Usage → P Memory → (Rose out_before.faults out_now.faults → P WriteFault) → PutsAll out_before out_now line put → P (status_after put Usage)
+usage_caused before now out_before out_now line WasPut P u m w taken = u
+usage_caused before now out_before out_now line PutFailed P u m w taken = w taken.0
+usage_caused before now out_before out_now line PutShort P u m w taken = m
+
+pub record Caused (before : FilesState) (out_before : SinkState) (now : FilesState) (out_now : SinkState) (result : Status) : Type 0 where
+  pub read_fault : result ≡ ReadFault → Rose before.read_faults now.read_faults
+  pub write_fault : result ≡ WriteFault → Rose before.write_faults now.write_faults ⊎ Rose out_before.faults out_now.faults
+  pub missing : result ≡ Missing → Rose before.misses now.misses
+  pub too_long : result ≡ TooLong → Rose before.over_long now.over_long
+
+cause_known : (before : FilesState) (out_before : SinkState) (now : FilesState) (out_now : SinkState) (result : Status) → EndCause true before out_before now out_now result → Caused before out_before now out_now result
+cause_known before out_before now out_now result c = record {
+  read_fault = λ e. subst (λ s. EndCause true before out_before now out_now s) e c;
+  write_fault = λ e. subst (λ s. EndCause true before out_before now out_now s) e c;
+  missing = λ e. subst (λ s. EndCause true before out_before now out_now s) e c;
+  too_long = λ e. subst (λ s. EndCause true before out_before now out_now s) e c;
+}
+
+usage_known : (before : FilesState) (out_before : SinkState) (now : FilesState) (out_now : SinkState) → Caused before out_before now out_now Usage
+usage_known before out_before now out_now = record {
+  read_fault = λ e. absurd (cc);
+  write_fault = λ e. absurd (cc);
+  missing = λ e. absurd (cc);
+  too_long = λ e. absurd (cc);
+}
+
+short_known : (before : FilesState) (out_before : SinkState) (now : FilesState) (out_now : SinkState) → Caused before out_before now out_now Memory
+short_known before out_before now out_now = record {
+  read_fault = λ e. absurd (cc);
+  write_fault = λ e. absurd (cc);
+  missing = λ e. absurd (cc);
+  too_long = λ e. absurd (cc);
+}
+
+fault_known : (before : FilesState) (out_before : SinkState) (now : FilesState) (out_now : SinkState) → Rose out_before.faults out_now.faults → Caused before out_before now out_now WriteFault
+fault_known before out_before now out_now rose = record {
+  read_fault = λ e. absurd (cc);
+  write_fault = λ e. inr rose;
+  missing = λ e. absurd (cc);
+  too_long = λ e. absurd (cc);
+}
+
+pub runs_caused : (plan : Option Plan) (before : FilesState) (out_before : SinkState) (now : FilesState) (out_now : SinkState) (result : Status) → Runs plan before out_before now out_now result → Caused before out_before now out_now result
+runs_caused None before out_before now out_now result h =
+    subst (λ s. Caused before out_before now out_now s) (sym h.1.is)
+    (usage_caused before now out_before out_now usage_line h.1.put (λ s. Caused before out_before now out_now s) (usage_known before out_before now out_now) (short_known before out_before now out_now) (fault_known before out_before now out_now) h.1.taken)
+runs_caused (Some plan) before out_before now out_now result h = cause_known before out_before now out_now result (ends_caused true plan before out_before now out_now result h)
+
+-- words of no form
+pub runs_no_form : (plan : Option Plan) (before : FilesState) (out_before : SinkState) (now : FilesState) (out_now : SinkState) (result : Status)
+    → Runs plan before out_before now out_now result → plan ≡ None → (now ≡ before) × Says out_before out_now usage_line Usage result
+runs_no_form plan before out_before now out_now result h e = subst (λ p. Runs p before out_before now out_now result) e h
+
+-- no plan changes a file
+ends_files : (asks : Bool) (plan : Plan) (before : FilesState) (out_before : SinkState) (now : FilesState) (out_now : SinkState) (result : Status)
+    → Ends asks plan before out_before now out_now result → now.told ≡ before.told
+ends_files asks (reads name limit next) before out_before now out_now result (inl h) = ap (λ f. f.told) h.files
+ends_files asks (reads name limit next) before out_before now out_now result (inr (inl h)) = h.files
+ends_files asks (reads name limit next) before out_before now out_now result (inr (inr h)) =
+    ends_files asks (next h.0) h.1 out_before now out_now result h.3 ∙ h.2.files
+ends_files asks (commits next) before out_before now out_now result (inl h) = ap (λ f. f.told) h.files
+ends_files asks (commits next) before out_before now out_now result (inr h) = ends_files false next before out_before now out_now result h
+ends_files asks (answers answer line) before out_before now out_now result (inl h) = ap (λ f. f.told) h.files
+ends_files asks (answers answer line) before out_before now out_now result (inr h) = ap (λ f. f.told) h.0
+
+pub runs_files : (plan : Option Plan) (before : FilesState) (out_before : SinkState) (now : FilesState) (out_now : SinkState) (result : Status)
+    → Runs plan before out_before now out_now result → now.told ≡ before.told
+runs_files None before out_before now out_now result h = ap (λ f. f.told) h.0
+runs_files (Some plan) before out_before now out_now result h = ends_files true plan before out_before now out_now result h

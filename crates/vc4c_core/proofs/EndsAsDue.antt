@@ -1,0 +1,167 @@
+-- A run of a plan ends as is due, where the files are told.
+use Rattle.std.proofs.Common.{◌≡◌, inl, inr, ℕ, ◌≤◌, ◌<◌, Bool, true, false, List, [], ◌∷◌, length, refl, sym, ap, ◌∙◌, subst, arith, cond, rules, tests}
+use Rattle.std.specs.Prelude.{Option, Some, None, IfSome, nat_le}
+use Rattle.q_io.specs.FilesMeaning.{Tree, FilesState, FilesCountsStay}
+use Rattle.q_io.specs.SinkMeaning.{SinkState}
+use Rattle.vc4c_core.specs.Lines.{Says, trouble_line, trouble_status}
+use Rattle.vc4c_core.specs.Plan.{Plan, reads, commits, answers, Ends, GivesUp, ReadTrouble}
+use Rattle.vc4c_core.specs.Due.{Place, read, commit, Due, then_due, trouble_due, due_read, due_of, StoppedAt, EndsAsDue}
+use Rattle.vc4c_core.specs.declared.status.Status.{Status}
+use Rattle.vc4c_core.specs.declared.places.Trouble.{Trouble}
+use Rattle.vc4c_core.specs.declared.places.Trouble.TheVariants.{Missing as IsMissing, TooLong as IsTooLong, ReadFault as IsReadFault, Memory as IsMemory}
+
+told_at : (told : Option Tree) (tree : Tree) (P : Tree → Type 0) → told ≡ Some tree → IfSome told P → P tree
+told_at told tree P e h = subst (λ t. IfSome t P) e h
+
+-- a fault at a place counts from an earlier moment too
+earlier_fault : (place : Place) (first before now : FilesState) (trouble : Trouble) → FilesCountsStay first before → StoppedAt place before now trouble → StoppedAt place first now trouble
+earlier_fault (read name) first before now trouble counts stopped =
+    elim stopped [ inl h ↦ inl (h.0, omega (arith, h.1)) | inr h ↦ inr (h.0, omega (arith, h.1)) ]
+earlier_fault commit first before now trouble counts stopped = stopped
+
+passes_read : (asks : Bool) (name : List ℕ) (due : Due) (tree : Tree) (first before now : FilesState) (out_before out_now : SinkState) (result : Status)
+    → FilesCountsStay first before
+    → EndsAsDue asks due tree before out_before now out_now result
+    → EndsAsDue asks (then_due (read name) due) tree first out_before now out_now result
+passes_read asks name due tree first before now out_before out_now result counts (inl h) = inl (record { files = h.files; says = h.says })
+passes_read asks name due tree first before now out_before out_now result counts (inr (inl h)) =
+    inr (inl (record {
+      passed = read name ∷ h.passed;
+      place = h.place;
+      rest = h.rest;
+      order = ap (λ ps. read name ∷ ps) h.order;
+      trouble = h.trouble;
+      stopped = earlier_fault h.place first before now h.trouble counts h.stopped;
+      files = h.files;
+      says = h.says;
+    }))
+passes_read asks name due tree first before now out_before out_now result counts (inr (inr h)) =
+    inr (inr (record {
+      may = h.may;
+      is = h.is;
+      passed = read name ∷ h.passed;
+      rest = h.rest;
+      order = ap (λ ps. read name ∷ ps) h.order;
+      no_step = h.no_step;
+      files = h.files;
+      out = h.out;
+    }))
+
+-- from the run on memory isn't asked for
+passes_commit : (asks : Bool) (due : Due) (tree : Tree) (before now : FilesState) (out_before out_now : SinkState) (result : Status)
+    → EndsAsDue false due tree before out_before now out_now result
+    → EndsAsDue asks (then_due commit due) tree before out_before now out_now result
+passes_commit asks due tree before now out_before out_now result (inl h) = inl (record { files = h.files; says = h.says })
+passes_commit asks due tree before now out_before out_now result (inr (inl h)) =
+    inr (inl (record {
+      passed = commit ∷ h.passed;
+      place = h.place;
+      rest = h.rest;
+      order = ap (λ ps. commit ∷ ps) h.order;
+      trouble = h.trouble;
+      stopped = h.stopped;
+      files = h.files;
+      says = h.says;
+    }))
+passes_commit asks due tree before now out_before out_now result (inr (inr h)) = absurd (let no : false ≡ true = h.may in cc)
+
+gives_up : (asks : Bool) (due : Due) (tree : Tree) (before now : FilesState) (out_before out_now : SinkState) (result : Status)
+    → before.told ≡ Some tree
+    → GivesUp asks before now out_before out_now result
+    → EndsAsDue asks due tree before out_before now out_now result
+gives_up asks due tree before now out_before out_now result told h =
+    inr (inr (record {
+      may = h.may;
+      is = h.is;
+      passed = [];
+      rest = due.places;
+      order = refl;
+      no_step = refl;
+      files = ap (λ f. f.told) h.files ∙ told;
+      out = h.out;
+    }))
+
+-- what a read makes due begins with that read
+begins_with_read : (name : List ℕ) (limit : ℕ) (content : Option (List ℕ)) (next : List ℕ → Due) → (rest : List Place) × ((due_read name limit content next).places ≡ read name ∷ rest)
+begins_with_read name limit None next = ([], refl)
+begins_with_read name limit (Some bytes) next =
+    elim (nat_le (length bytes) limit) as (λ b. (rest : List Place) × ((cond b (then_due (read name) (next bytes)) (trouble_due IsTooLong name)).places ≡ read name ∷ rest)) [
+      | true ↦ ((next bytes).places, refl)
+      | false ↦ ([], refl)
+    ]
+
+le_true : (m n : ℕ) → m ≤ n → nat_le m n ≡ true
+le_true m n h = search (rules, tests)
+
+le_false : (m n : ℕ) → n < m → nat_le m n ≡ false
+le_false m n h = search (rules, tests)
+
+-- what is due of a read that finds its file
+due_found : (name : List ℕ) (limit : ℕ) (content : Option (List ℕ)) (bytes : List ℕ) (next : List ℕ → Due) → content ≡ Some bytes → length bytes ≤ limit
+    → due_read name limit content next ≡ then_due (read name) (next bytes)
+due_found name limit content bytes next e h =
+    ap (λ c. due_read name limit c next) e ∙ ap (λ b. cond b (then_due (read name) (next bytes)) (trouble_due IsTooLong name)) (le_true _ _ h)
+
+due_long : (name : List ℕ) (limit : ℕ) (content : Option (List ℕ)) (bytes : List ℕ) (next : List ℕ → Due) → content ≡ Some bytes → limit < length bytes
+    → due_read name limit content next ≡ trouble_due IsTooLong name
+due_long name limit content bytes next e h =
+    ap (λ c. due_read name limit c next) e ∙ ap (λ b. cond b (then_due (read name) (next bytes)) (trouble_due IsTooLong name)) (le_false _ _ h)
+
+stops_at_read : (asks : Bool) (name : List ℕ) (limit : ℕ) (next : List ℕ → Due) (tree : Tree) (before now : FilesState) (out_before out_now : SinkState) (result : Status)
+    → before.told ≡ Some tree
+    → now.told ≡ before.told
+    → (trouble : Trouble)
+    → ReadTrouble before now name limit trouble
+    → Says out_before out_now (trouble_line trouble name) (trouble_status trouble) result
+    → EndsAsDue asks (due_read name limit (tree name) next) tree before out_before now out_now result
+stops_at_read asks name limit next tree before now out_before out_now result told files IsMissing cause says =
+    let lacks : tree name ≡ None = told_at before.told tree (λ t. t name ≡ None) told cause.1 in
+    subst (λ c. EndsAsDue asks (due_read name limit c next) tree before out_before now out_now result) (sym lacks) (inl (record { files = files ∙ told; says = says }))
+stops_at_read asks name limit next tree before now out_before out_now result told files IsTooLong cause says =
+    let passes = told_at before.told tree (λ t. (bytes : List ℕ) × (t name ≡ Some bytes) × (limit < length bytes)) told cause.1 in
+    subst (λ d. EndsAsDue asks d tree before out_before now out_now result) (sym (due_long name limit (tree name) passes.0 next passes.1 passes.2)) (inl (record { files = files ∙ told; says = says }))
+stops_at_read asks name limit next tree before now out_before out_now result told files IsReadFault cause says =
+    let begins = begins_with_read name limit (tree name) next in
+    inr (inl (record {
+      passed = [];
+      place = read name;
+      rest = begins.0;
+      order = begins.1;
+      trouble = IsReadFault;
+      stopped = inl (refl, cause);
+      files = files ∙ told;
+      says = says;
+    }))
+stops_at_read asks name limit next tree before now out_before out_now result told files IsMemory cause says =
+    let begins = begins_with_read name limit (tree name) next in
+    inr (inl (record {
+      passed = [];
+      place = read name;
+      rest = begins.0;
+      order = begins.1;
+      trouble = IsMemory;
+      stopped = inr (refl, cause);
+      files = files ∙ told;
+      says = says;
+    }))
+
+pub ends_as_due : (asks : Bool) (plan : Plan) (tree : Tree) (before : FilesState) (out_before : SinkState) (now : FilesState) (out_now : SinkState) (result : Status)
+    → before.told ≡ Some tree
+    → Ends asks plan before out_before now out_now result
+    → EndsAsDue asks (due_of plan tree) tree before out_before now out_now result
+ends_as_due asks (reads name limit next) tree before out_before now out_now result told (inl h) = gives_up asks _ tree before now out_before out_now result told h
+ends_as_due asks (reads name limit next) tree before out_before now out_now result told (inr (inl h)) =
+    stops_at_read asks name limit _ tree before now out_before out_now result told h.files h.trouble h.cause h.says
+ends_as_due asks (reads name limit next) tree before out_before now out_now result told (inr (inr h)) =
+    let bytes = h.0 in
+    let mid = h.1 in
+    let has_read = h.2 in
+    let is : tree name ≡ Some bytes = told_at before.told tree (λ t. t name ≡ Some bytes) told has_read.holds in
+    let rest = ends_as_due asks (next bytes) tree mid out_before now out_now result (has_read.files ∙ told) h.3 in
+    let found = due_found name limit (tree name) bytes (λ b. due_of (next b) tree) is has_read.fits in
+    subst (λ d. EndsAsDue asks d tree before out_before now out_now result) (sym found) (passes_read asks name _ tree before mid now out_before out_now result has_read.counts rest)
+ends_as_due asks (commits next) tree before out_before now out_now result told (inl h) = gives_up asks _ tree before now out_before out_now result told h
+ends_as_due asks (commits next) tree before out_before now out_now result told (inr h) =
+    passes_commit asks _ tree before now out_before out_now result (ends_as_due false next tree before out_before now out_now result told h)
+ends_as_due asks (answers answer line) tree before out_before now out_now result told (inl h) = gives_up asks _ tree before now out_before out_now result told h
+ends_as_due asks (answers answer line) tree before out_before now out_now result told (inr h) = inl (record { files = ap (λ f. f.told) h.0 ∙ told; says = h.1 })

@@ -1,0 +1,20 @@
+use Rattle.vc4c_core.proofs.Clauses.{runs_due, runs_quiet, runs_usage, runs_no_form, runs_files, runs_caused}
+use Rattle.vc4c_core.proofs.ExecDone.{runs_answers}
+use Rattle.vc4c_core.proofs.run.Goals as goal
+
+pub returns : goal.returns
+returns g c =
+    let caused = runs_caused _ _ _ _ _ _ c.run_words.ensures in
+    record {
+      usage = runs_usage _ _ _ _ _ _ c.run_words.ensures;
+      no_form = runs_no_form _ _ _ _ _ _ c.run_words.ensures;
+      exec = runs_answers _ _ _ _ _ _ c.run_words.ensures;
+      files = runs_files _ _ _ _ _ _ c.run_words.ensures;
+      read_fault = caused.read_fault;
+      write_fault = caused.write_fault;
+      missing = caused.missing;
+      too_long = caused.too_long;
+      due = runs_due _ _ _ _ _ _ c.run_words.ensures;
+      quiet = runs_quiet _ _ _ _ _ _ c.run_words.ensures;
+      order = c.run_words.ensures;
+    }

@@ -1,0 +1,11 @@
+pub mod Lines
+pub mod Plan
+pub mod Due
+pub mod Causes
+pub mod Report
+pub mod Schedule
+pub mod Small
+pub mod ModuleBytes
+pub mod LaunchText
+pub mod Exec
+pub mod Commands

@@ -1,0 +1,76 @@
+-- A command as its places in order, and what a run of it may do.
+use Rattle.std.specs.Prelude.{◌≡◌, ◌⊎◌, ℕ, ◌≤◌, Bool, true, false, List, length}
+use Rattle.q_io.specs.Rose.{Rose}
+use Rattle.q_io.specs.FilesMeaning.{FilesState, FilesCountsStay, Holds, Lacks, Passes}
+use Rattle.q_io.specs.SinkMeaning.{SinkState}
+use Rattle.vc4c_core.specs.Lines.{Says, trouble_line, trouble_status}
+use Rattle.vc4c_core.specs.declared.status.Status.{Status}
+use Rattle.vc4c_core.specs.declared.status.Status.TheVariants.{Done, Memory, BadModule, BadLaunch, Broken, Unfinished}
+use Rattle.vc4c_core.specs.declared.places.Trouble.{Trouble}
+use Rattle.vc4c_core.specs.declared.places.Trouble.TheVariants.{Missing as IsMissing, TooLong as IsTooLong, ReadFault as IsReadFault, Memory as IsMemory}
+
+-- the answers of a command that met no trouble at its places
+pub data Answer : Type 0 where
+  done : Answer
+  bad_module : Answer
+  bad_launch : Answer
+  broken : Answer
+  unfinished : Answer
+
+abbrev pub status_of : Answer → Status
+status_of done = Done
+status_of bad_module = BadModule
+status_of bad_launch = BadLaunch
+status_of broken = Broken
+status_of unfinished = Unfinished
+
+-- what a command has still to do
+pub data Plan : Type 0 where
+  -- it reads a file of at most so many bytes, and goes on with these
+  reads : (name : List ℕ) (limit : ℕ) (next : List ℕ → Plan) → Plan
+  -- from here on it asks for no memory: the machine's first step
+  commits : (next : Plan) → Plan
+  -- it writes its line and ends
+  answers : (answer : Answer) (line : List ℕ) → Plan
+
+-- the file was read: no file has changed, and these are its bytes where the files are told
+pub record HasRead (before now : FilesState) (name : List ℕ) (limit : ℕ) (bytes : List ℕ) : Type 0 where
+  pub counts : FilesCountsStay before now
+  pub files : now.told ≡ before.told
+  pub fits : length bytes ≤ limit
+  pub holds : Holds before name bytes
+
+-- what stops a read, with its cause
+abbrev pub ReadTrouble : FilesState → FilesState → List ℕ → ℕ → Trouble → Type 0
+ReadTrouble before now name limit IsMissing = Rose before.misses now.misses × Lacks before name
+ReadTrouble before now name limit IsTooLong = Rose before.over_long now.over_long × Passes before name limit
+ReadTrouble before now name limit IsReadFault = Rose before.read_faults now.read_faults
+ReadTrouble before now name limit IsMemory = Rose before.shortages now.shortages
+
+-- a read stopped the command, with no file changed
+pub record StopsAtRead (before now : FilesState) (out_before out_now : SinkState) (name : List ℕ) (limit : ℕ) (result : Status) : Type 0 where
+  pub counts : FilesCountsStay before now
+  pub files : now.told ≡ before.told
+  pub trouble : Trouble
+  pub cause : ReadTrouble before now name limit trouble
+  pub says : Says out_before out_now (trouble_line trouble name) (trouble_status trouble) result
+
+-- want of memory, while memory may be asked for: nothing has changed and nothing is written
+pub record GivesUp (asks : Bool) (before now : FilesState) (out_before out_now : SinkState) (result : Status) : Type 0 where
+  pub may : asks ≡ true
+  pub is : result ≡ Memory
+  pub files : now ≡ before
+  pub out : out_now ≡ out_before
+
+-- A run of what is still to do, from these files and this sink to those, with this result.
+abbrev pub Ends : Bool → Plan → FilesState → SinkState → FilesState → SinkState → Status → Type 0
+Ends asks (reads name limit next) before out_before now out_now result =
+    GivesUp asks before now out_before out_now result
+    ⊎ (StopsAtRead before now out_before out_now name limit result
+    ⊎ ((bytes : List ℕ) × (mid : FilesState) × HasRead before mid name limit bytes × Ends asks (next bytes) mid out_before now out_now result))
+Ends asks (commits next) before out_before now out_now result =
+    GivesUp asks before now out_before out_now result
+    ⊎ Ends false next before out_before now out_now result
+Ends asks (answers answer line) before out_before now out_now result =
+    GivesUp asks before now out_before out_now result
+    ⊎ ((now ≡ before) × Says out_before out_now line (status_of answer) result)

@@ -1,0 +1,96 @@
+//! The top call: the program over any files and any output.
+#![tactic(auto)]
+
+ghost use Rattle.std.specs.Prelude.{◌≡◌, ◌⊎◌, true, map, string_bytes, IfSome, None};
+ghost use Rattle.q_io.specs.Rose.{Rose};
+ghost use Rattle.vc4c_core.specs.Commands.{plan_of, due_for, usage_line, Runs, IfExec};
+ghost use Rattle.vc4c_core.specs.Due.{EndsAsDue, IsQuiet};
+ghost use Rattle.vc4c_core.specs.Lines.{Says};
+ghost use Rattle.vc4c_core.specs.Exec.{ExecAnswers};
+
+use crate::command::{Command, command_of};
+use crate::exec::exec;
+use crate::places::say;
+pub use crate::status::{Status, code};
+use q_io::{Files, Sink};
+use std::alloc::Global;
+
+mod command;
+mod exec;
+mod launch_text;
+mod lines;
+mod module_file;
+mod places;
+mod play;
+mod report;
+mod small;
+mod status;
+
+const USAGE: &[u8] =
+    b"usage: compile SRC KERNEL MODULE | exec MODULE LAUNCH | run SRC KERNEL MODULE LAUNCH | judge SRC KERNEL LAUNCH TURNS | disasm MODULE | demo SEED\n";
+
+#[tactic(auto, unfolding(crate::specs::Commands::usage_line))]
+fn say_usage<S: Sink>(out: &mut S) -> Status
+    ensures { Says (S.state out.old) (S.state out.new) usage_line Status.Usage result }
+{
+    say(out, USAGE, Status::Usage)
+}
+
+fn run_words<F: Files, S: Sink>(
+    alloc: Global,
+    words: &[String],
+    files: &mut F,
+    out: &mut S,
+) -> Status
+    ensures { Runs (plan_of (map string_bytes words.now)) (F.state files.old) (S.state out.old) (F.state files.new) (S.state out.new) result }
+{
+    match command_of(words) {
+        Some(
+            Command::Exec {
+                module_name,
+                launch_name,
+            },
+        ) => exec(alloc, module_name, launch_name, files, out),
+        None => say_usage(out),
+    }
+}
+
+/// Does what the words ask for, and answers how it went.
+///
+/// `exec MODULE LAUNCH` runs the module by the launch and writes the report of the run. All memory
+/// is taken before the machine's first step.
+pub fn run<F: Files, S: Sink>(alloc: Global, words: &[String], files: &mut F, out: &mut S) -> Status
+    // Usage is answered only where the words are of no form, and then its line is all that is done.
+    ensures usage { result ≡ Status.Usage → plan_of (map string_bytes words.now) ≡ None }
+    ensures no_form { plan_of (map string_bytes words.now) ≡ None → ((F.state files.new) ≡ (F.state files.old)) × Says (S.state out.old) (S.state out.new) usage_line Status.Usage result }
+
+    // The run's stop, a bad module and a bad launch are those of the files that were read.
+    ensures exec { IfExec (map string_bytes words.now) (λ module_name launch_name.
+        ExecAnswers module_name launch_name (F.state files.old) (S.state out.old) (F.state files.new) (S.state out.new) result) }
+
+    // No file is ever changed.
+    ensures files { (F.state files.new).told ≡ (F.state files.old).told }
+
+    // A fault, a missing file and an over-long file are answered only where such a thing came in this call.
+    ensures read_fault { result ≡ Status.ReadFault → Rose (F.state files.old).read_faults (F.state files.new).read_faults }
+    ensures write_fault { result ≡ Status.WriteFault → Rose (F.state files.old).write_faults (F.state files.new).write_faults ⊎ Rose (S.state out.old).faults (S.state out.new).faults }
+    ensures missing { result ≡ Status.Missing → Rose (F.state files.old).misses (F.state files.new).misses }
+    ensures too_long { result ≡ Status.TooLong → Rose (F.state files.old).over_long (F.state files.new).over_long }
+
+    // Where the files are told, it ends as is due of the words, or at a fault or want of memory on the way there.
+    ensures due { IfSome (F.state files.old).told (λ tree.
+        EndsAsDue true (due_for (plan_of (map string_bytes words.now)) tree) tree (F.state files.old) (S.state out.old) (F.state files.new) (S.state out.new) result) }
+
+    // Where they are told and no fault came, the status is the one that is due, or want of memory.
+    ensures quiet { IfSome (F.state files.old).told (λ tree.
+        IsQuiet (F.state files.old) (S.state out.old) (F.state files.new) (S.state out.new)
+        → (result ≡ (due_for (plan_of (map string_bytes words.now)) tree).status) ⊎ (result ≡ Status.Memory)) }
+
+    // Told or not, it goes through the places in their order.
+    ensures order { Runs (plan_of (map string_bytes words.now)) (F.state files.old) (S.state out.old) (F.state files.new) (S.state out.new) result }
+{
+    run_words(alloc, words, files, out)
+}
+
+#[cfg(test)]
+mod tests;

@@ -1,0 +1,70 @@
+//! The places of a command: a file read, a line written.
+
+ghost use Rattle.std.specs.Prelude.{◌≡◌, ◌++◌, codes, IfOk, IfErr};
+ghost use Rattle.q_io.specs.FilesMeaning.{FilesCountsStay};
+ghost use Rattle.vc4c_core.specs.Lines.{Says, status_after, trouble_line, trouble_status};
+ghost use Rattle.vc4c_core.specs.Plan.{HasRead, ReadTrouble};
+
+use crate::status::Status;
+use q_io::{Files, Got, Put, Sink, put_all, put_three};
+
+/// What stops a command at a read.
+#[derive(Clone, Copy, Debug, PartialEq, Eq)]
+pub enum Trouble {
+    Missing,
+    TooLong,
+    ReadFault,
+    Memory,
+}
+
+/// Reads a file of at most `limit` bytes.
+pub fn read_place<F: Files>(files: &mut F, name: &str, limit: u64) -> Result<Vec<u8>, Trouble>
+    ensures counts { FilesCountsStay (F.state files.old) (F.state files.new) }
+    ensures files { (F.state files.new).told ≡ (F.state files.old).told }
+    ensures read { IfOk result (λ bytes. HasRead (F.state files.old) (F.state files.new) name.now limit bytes.items) }
+    ensures trouble { IfErr result (ReadTrouble (F.state files.old) (F.state files.new) name.now limit) }
+{
+    match files.read(name, limit) {
+        Got::Found(bytes) => Ok(bytes),
+        Got::TooLong => Err(Trouble::TooLong),
+        Got::Missing => Err(Trouble::Missing),
+        Got::Failed => Err(Trouble::ReadFault),
+        Got::Memory => Err(Trouble::Memory),
+    }
+}
+
+/// The status that is left once its line was put, or wasn't.
+pub fn after_put(put: Put, status: Status) -> Status
+    ensures { result ≡ status_after put status }
+{
+    match put {
+        Put::Done => status,
+        Put::Failed => Status::WriteFault,
+        Put::Memory => Status::Memory,
+    }
+}
+
+/// Writes a line, and answers the status that is left then.
+pub fn say<S: Sink>(out: &mut S, line: &[u8], status: Status) -> Status
+    ensures { Says (S.state out.old) (S.state out.new) line.now status result }
+{
+    after_put(put_all(out, line), status)
+}
+
+/// Writes the line of a trouble with a file.
+pub fn stop<S: Sink>(out: &mut S, trouble: Trouble, name: &str) -> Status
+    ensures { Says (S.state out.old) (S.state out.new) (trouble_line trouble name.now) (trouble_status trouble) result }
+{
+    match trouble {
+        Trouble::Missing => say_name(out, b"missing ", name, Status::Missing),
+        Trouble::TooLong => say_name(out, b"too long ", name, Status::TooLong),
+        Trouble::ReadFault => say_name(out, b"read fault ", name, Status::ReadFault),
+        Trouble::Memory => say(out, b"", Status::Memory),
+    }
+}
+
+fn say_name<S: Sink>(out: &mut S, words: &[u8], name: &str, status: Status) -> Status
+    ensures { Says (S.state out.old) (S.state out.new) (words.now ++ (name.now ++ codes "\n")) status result }
+{
+    after_put(put_three(out, words, name.as_bytes(), b"\n"), status)
+}

@@ -1,0 +1,226 @@
+use crate::{Status, code, run};
+use q_io::{SureFiles, SureSink, Text};
+use std::alloc::{AllocError, Global};
+use std::collections::BTreeMap;
+use std::test::Fail;
+
+const NOP: u64 = 0x1000_09E7_009E_7000;
+
+const END: u64 = 0x3000_09E7_009E_7000;
+
+/// A module of four words, byte for byte: a nop, a program end and two nops.
+pub const FOUR_WORDS: [u8; 72] = [
+    0x56, 0x43, 0x34, 0x51, 0x01, 0x00, 0x00, 0x00, 0x00, 0x00, 0x00, 0x00, 0x04, 0x00, 0x00, 0x00,
+    0x00, 0x00, 0x00, 0x00, 0xff, 0xff, 0xff, 0xff, 0xff, 0xff, 0xff, 0xff, 0xff, 0xff, 0xff, 0xff,
+    0xff, 0xff, 0xff, 0xff, 0x00, 0x00, 0x00, 0x00, 0x00, 0x70, 0x9e, 0x00, 0xe7, 0x09, 0x00, 0x10,
+    0x00, 0x70, 0x9e, 0x00, 0xe7, 0x09, 0x00, 0x30, 0x00, 0x70, 0x9e, 0x00, 0xe7, 0x09, 0x00, 0x10,
+    0x00, 0x70, 0x9e, 0x00, 0xe7, 0x09, 0x00, 0x10,
+];
+
+/// The bytes of a module of these words, by hand from its layout.
+fn module(alloc: Global, words: &[u64]) -> Result<Vec<u8>, AllocError> {
+    let mut bytes = Vec::from_slice(alloc, b"VC4Q\x01\0\0\0\0\0\0\0")?;
+    bytes.extend_from_slice(&(words.len() as u64).to_le_bytes()[..4])?;
+    bytes.extend_from_slice(&[0; 4])?;
+    bytes.extend_from_slice(&[0xFF; 16])?;
+    bytes.extend_from_slice(&[0; 4])?;
+    for word in words {
+        bytes.extend_from_slice(&word.to_le_bytes())?;
+    }
+    Ok(bytes)
+}
+
+fn words(alloc: Global, line: &str) -> Result<Vec<String>, AllocError> {
+    let mut words = Vec::new(alloc);
+    for word in line.split_whitespace() {
+        words.push(String::from_str(alloc, word)?)?;
+    }
+    Ok(words)
+}
+
+/// What the program answers to the words of a line over these two files, and what it writes.
+fn answer(
+    alloc: Global,
+    line: &str,
+    module: &[u8],
+    launch: &str,
+) -> Result<(Status, Vec<u8>), AllocError> {
+    let mut tree = BTreeMap::new(alloc);
+    tree.insert(
+        Text::from_slice(alloc, b"m")?,
+        Vec::from_slice(alloc, module)?,
+    )?;
+    tree.insert(
+        Text::from_slice(alloc, b"l")?,
+        Vec::from_slice(alloc, launch.as_bytes())?,
+    )?;
+    let mut files = SureFiles::with(alloc, tree);
+    let mut out = SureSink::with(alloc);
+    let status = run(alloc, &words(alloc, line)?, &mut files, &mut out);
+    Ok((status, Vec::from_slice(alloc, out.taken())?))
+}
+
+fn small_launch(alloc: Global, rounds: &str) -> Result<String, AllocError> {
+    let mut text = String::from_str(alloc, "launch 1\nqpus 1\nglobal 1\nlocal 1\nschedule rr ")?;
+    text.push_str(rounds)?;
+    text.push_str("\n")?;
+    Ok(text)
+}
+
+/// The report of one QPU: its stop, how many words it did, and its line.
+fn report(alloc: Global, stop: &str, issued: &str, qpu: &str) -> Result<String, AllocError> {
+    let mut text = String::from_str(alloc, stop)?;
+    text.push_str("\nsteps ")?;
+    text.push_str(issued)?;
+    text.push_str(" issued ")?;
+    text.push_str(issued)?;
+    text.push_str(" moved 0 loads 0 stores 0\nqpu 0 ")?;
+    text.push_str(qpu)?;
+    text.push_str("\nr0")?;
+    for _ in 0..16 {
+        text.push_str(" 00000000")?;
+    }
+    text.push_str("\n")?;
+    Ok(text)
+}
+
+#[test]
+fn runs_end_as_their_words_say(rt: HostRuntime) -> Result<(), Fail> {
+    let alloc = rt.alloc();
+    let four: &[u64] = &[NOP, END, NOP, NOP];
+    let rows: &[(&[u64], &str, u8, &str, &str, &str)] = &[
+        (
+            four,
+            "1000",
+            0,
+            "stop finished",
+            "4",
+            "ended place 4 issued 4",
+        ),
+        (
+            four,
+            "18446744073709551615",
+            0,
+            "stop finished",
+            "4",
+            "ended place 4 issued 4",
+        ),
+        (four, "4", 0, "stop finished", "4", "ended place 4 issued 4"),
+        (
+            four,
+            "3",
+            11,
+            "stop unfinished",
+            "3",
+            "running place 3 issued 3",
+        ),
+        (
+            four,
+            "1",
+            11,
+            "stop unfinished",
+            "1",
+            "running place 1 issued 1",
+        ),
+        (
+            four,
+            "0",
+            11,
+            "stop unfinished",
+            "0",
+            "running place 0 issued 0",
+        ),
+        (
+            &[NOP],
+            "5",
+            10,
+            "stop broken H0 qpu 0 place 1",
+            "1",
+            "running place 1 issued 1",
+        ),
+        (
+            &[0, NOP, END, NOP, NOP],
+            "1000",
+            10,
+            "stop broken H0 qpu 0 place 0",
+            "0",
+            "running place 0 issued 0",
+        ),
+        (
+            &[END, NOP, END, NOP, NOP],
+            "1000",
+            10,
+            "stop broken H0 qpu 0 place 2",
+            "2",
+            "running place 2 issued 2",
+        ),
+        (
+            &[NOP, END, NOP],
+            "1000",
+            10,
+            "stop broken H0 qpu 0 place 3",
+            "3",
+            "running place 3 issued 3",
+        ),
+    ];
+    for (code_words, rounds, status, stop, issued, qpu) in rows {
+        let (got, text) = answer(
+            alloc,
+            "exec m l",
+            &module(alloc, code_words)?,
+            &small_launch(alloc, rounds)?,
+        )?;
+        assert_eq!(rt; code(got), *status, "rounds {rounds}, {stop}");
+        assert!(rt; text.as_slice() == report(alloc, stop, issued, qpu)?.as_bytes());
+    }
+    Ok(())
+}
+
+#[test]
+fn refusals_say_their_cause(rt: HostRuntime) -> Result<(), Fail> {
+    let alloc = rt.alloc();
+    let good = FOUR_WORDS.as_slice();
+    let launch = "launch 1\nqpus 1\nglobal 1\nlocal 1\nschedule rr 1000\n";
+    let usage =
+        "usage: compile SRC KERNEL MODULE | exec MODULE LAUNCH | run SRC KERNEL MODULE LAUNCH | judge SRC KERNEL LAUNCH TURNS | disasm MODULE | demo SEED\n";
+    for line in [
+        "",
+        "exec",
+        "exec m",
+        "exec m m",
+        "exec m l l",
+        "Exec m l",
+        "--help",
+        "disasm m",
+        "compile m k l",
+    ] {
+        let (got, text) = answer(alloc, line, good, launch)?;
+        assert_eq!(rt; code(got), 2, "at {line}");
+        assert!(rt; text.as_slice() == usage.as_bytes());
+    }
+    for bytes in [
+        &FOUR_WORDS[..71],
+        &FOUR_WORDS[..40],
+        b"".as_slice(),
+        b"VC4Q".as_slice(),
+    ] {
+        let (got, text) = answer(alloc, "exec m l", bytes, launch)?;
+        assert_eq!(rt; code(got), 8);
+        assert!(rt; text.as_slice() == b"bad module 0\n".as_slice());
+    }
+    for other in [
+        "",
+        "launch 1\nqpus 13\nglobal 1\nlocal 1\nschedule rr 1000\n",
+        "launch 1\nqpus 1\nglobal 1\nlocal 1\nschedule rr 01000\n",
+        "launch 1\nqpus 1\nglobal 1\nlocal 1\nschedule rr 18446744073709551616\n",
+        "launch 1\nqpus 1\nglobal 1\nlocal 1\nschedule rr 1000",
+    ] {
+        let (got, text) = answer(alloc, "exec m l", good, other)?;
+        assert_eq!(rt; code(got), 9, "at {other}");
+        assert!(rt; text.as_slice() == b"bad launch B1 1\n".as_slice());
+    }
+    let (got, text) = answer(alloc, "exec none l", good, launch)?;
+    assert_eq!(rt; code(got), 5);
+    assert!(rt; text.as_slice() == b"missing none\n".as_slice());
+    Ok(())
+}
