@@ -3,6 +3,7 @@
 #![tactic(auto)]
 
 mod host;
+mod memory;
 mod sure;
 #[cfg(test)]
 mod tests;
@@ -13,6 +14,7 @@ ghost use Rattle.q_io.specs.FilesMeaning.{FilesState, FilesCountsStay, ReadLeave
 ghost use Rattle.q_io.specs.SinkMeaning.{SinkState, SinkCountsStay, Takes, PutsAll};
 
 pub use host::{HostFiles, HostSink};
+pub use memory::{MemFiles, MemSink};
 pub use sure::{SureFiles, SureSink};
 pub use text::Text;
 

@@ -60,6 +60,39 @@ fn files_in_memory(rt: HostRuntime) -> Result<(), Fail> {
     let mut files = SureFiles::with(alloc, held);
     written_and_read(&rt, alloc, &mut files, "b")?;
     assert!(rt; finds(files.read("a", 2), b"\x00\x01"));
+    let a = Text::from_slice(alloc, b"a")?;
+    assert_eq!(rt; files.file(&a), Some(b"\x00\x01".as_slice()));
+    let mut files = MemFiles::with(alloc, BTreeMap::new(alloc), Vec::new(alloc));
+    written_and_read(&rt, alloc, &mut files, "b")?;
+    assert_eq!(rt; files.file(&a), None);
+    Ok(())
+}
+
+/// Call 0 writes a file, call 1 writes it anew, call 2 reads it, and call 3 reads a name without a file. Wanted are
+/// the file in the end, and which calls failed.
+#[test]
+fn files_whose_listed_calls_fail(rt: HostRuntime) -> Result<(), Fail> {
+    let alloc = rt.alloc();
+    let name = Text::from_slice(alloc, b"a")?;
+    let table: [(&[u64], Option<&[u8]>, [bool; 4]); 4] = [
+        (&[0], Some(b"new"), [true, false, false, false]),
+        (&[1, 3, 3], Some(b"old"), [false, true, false, true]),
+        (&[2], Some(b"new"), [false, false, true, false]),
+        (&[4, 1, 0], None, [true, true, false, false]),
+    ];
+    for (fail, held, failed) in table {
+        let fail = Vec::from_slice(alloc, fail)?;
+        let mut files = MemFiles::with(alloc, BTreeMap::new(alloc), fail);
+        let got = [
+            files.write("a", b"old") == Put::Failed,
+            files.write("a", b"new") == Put::Failed,
+            matches!(files.read("a", 9), Got::Failed),
+            matches!(files.read("b", 9), Got::Failed),
+        ];
+        assert_eq!(rt; got, failed);
+        assert_eq!(rt; files.file(&name), held);
+        assert_eq!(rt; files.calls(), 4);
+    }
     Ok(())
 }
 
@@ -98,6 +131,37 @@ fn sink_in_memory(rt: HostRuntime) -> Result<(), Fail> {
         sink.taken(),
         b"one\ntwo pieces\nthree more pieces\n".as_slice()
     );
+    let alloc = rt.alloc();
+    let mut sink = MemSink::with(alloc, Vec::new(alloc));
+    put_lines(&rt, &mut sink);
+    assert_eq!(rt;
+        sink.taken(),
+        b"one\ntwo pieces\nthree more pieces\n".as_slice()
+    );
+    Ok(())
+}
+
+/// Pieces of two, one and three bytes. Wanted are the bytes taken in the end, and which calls failed.
+#[test]
+fn sink_whose_listed_calls_fail(rt: HostRuntime) -> Result<(), Fail> {
+    let alloc = rt.alloc();
+    let table: [(&[u64], &[u8], [Put; 3]); 3] = [
+        (&[0], b"cdef", [Put::Failed, Put::Done, Put::Done]),
+        (&[1, 3, 3], b"abdef", [Put::Done, Put::Failed, Put::Done]),
+        (&[2], b"abc", [Put::Done, Put::Done, Put::Failed]),
+    ];
+    for (fail, taken, answers) in table {
+        let fail = Vec::from_slice(alloc, fail)?;
+        let mut sink = MemSink::with(alloc, fail);
+        let got = [
+            put_all(&mut sink, b"ab"),
+            put_all(&mut sink, b"c"),
+            put_all(&mut sink, b"def"),
+        ];
+        assert_eq!(rt; got, answers);
+        assert_eq!(rt; sink.taken(), taken);
+        assert_eq!(rt; sink.calls(), 3);
+    }
     Ok(())
 }
 
