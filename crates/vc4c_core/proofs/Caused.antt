@@ -4,9 +4,9 @@ use Rattle.q_io.specs.FilesMeaning.{FilesState, FilesCountsStay}
 use Rattle.q_io.specs.SinkMeaning.{SinkState, PutsAll}
 use Rattle.q_io.specs.declared.Put.{Put}
 use Rattle.q_io.specs.declared.Put.TheVariants.{Done as WasPut, Failed as PutFailed, Memory as PutShort}
-use Rattle.vc4c_core.specs.Lines.{Says, status_after, trouble_status}
+use Rattle.vc4c_core.specs.Lines.{Says, SaysTrouble, status_after}
 use Rattle.vc4c_core.specs.Plan.{Plan, reads, commits, answers, Answer, done, bad_module, bad_launch, broken, unfinished, status_of, Ends, ReadTrouble}
-use Rattle.vc4c_core.specs.Causes.{EndCause}
+use Rattle.vc4c_core.proofs.Causes.{EndCause}
 use Rattle.vc4c_core.specs.declared.status.Status.{Status}
 use Rattle.vc4c_core.specs.declared.status.Status.TheVariants.{Done, Memory, Usage, ReadFault, WriteFault, Missing, TooLong, Refused, BadModule, BadLaunch, Broken, Unfinished, NotSafe}
 use Rattle.vc4c_core.specs.declared.places.Trouble.{Trouble}
@@ -33,7 +33,7 @@ earlier asks first before now out_before out_now NotSafe h c = tt
 
 no_longer_asks : (asks : Bool) (before now : FilesState) (out_before out_now : SinkState) (status : Status) → EndCause false before out_before now out_now status → EndCause asks before out_before now out_now status
 no_longer_asks asks before now out_before out_now Done c = tt
-no_longer_asks asks before now out_before out_now Memory (inl c) = absurd (cc)
+no_longer_asks asks before now out_before out_now Memory (inl c) = absurd (let no : false ≡ true = c.0 in cc)
 no_longer_asks asks before now out_before out_now Memory (inr c) = inr c
 no_longer_asks asks before now out_before out_now Usage c = c
 no_longer_asks asks before now out_before out_now ReadFault c = c
@@ -63,24 +63,25 @@ says_caused : (asks : Bool) (before now : FilesState) (out_before out_now : Sink
 says_caused asks before now out_before out_now line status result says c =
     subst (λ s. EndCause asks before out_before now out_now s) (sym says.is) (put_caused asks before now out_before out_now line status says.put says.taken c)
 
-read_caused : (asks : Bool) (before now : FilesState) (out_before out_now : SinkState) (name : List ℕ) (limit : ℕ) (trouble : Trouble) → ReadTrouble before now name limit trouble → EndCause asks before out_before now out_now (trouble_status trouble)
-read_caused asks before now out_before out_now name limit IsMissing c = c.0
-read_caused asks before now out_before out_now name limit IsTooLong c = c.0
-read_caused asks before now out_before out_now name limit IsReadFault c = c
-read_caused asks before now out_before out_now name limit IsMemory c = inr (inl c)
+read_caused : (asks : Bool) (before now : FilesState) (out_before out_now : SinkState) (name : List ℕ) (limit : ℕ) (trouble : Trouble) (result : Status)
+    → ReadTrouble before now name limit trouble → SaysTrouble out_before out_now trouble name result → EndCause asks before out_before now out_now result
+read_caused asks before now out_before out_now name limit IsMissing result c says = says_caused asks before now out_before out_now _ Missing result says c.0
+read_caused asks before now out_before out_now name limit IsTooLong result c says = says_caused asks before now out_before out_now _ TooLong result says c.0
+read_caused asks before now out_before out_now name limit IsReadFault result c says = says_caused asks before now out_before out_now _ ReadFault result says c
+read_caused asks before now out_before out_now name limit IsMemory result c says = subst (λ s. EndCause asks before out_before now out_now s) (sym says.1) (inr (inl c))
 
-gave_up : (asks : Bool) (before now : FilesState) (out_before out_now : SinkState) (result : Status) → asks ≡ true → result ≡ Memory → EndCause asks before out_before now out_now result
-gave_up asks before now out_before out_now result may e = subst (λ s. EndCause asks before out_before now out_now s) (sym e) (inl may)
+gave_up : (asks : Bool) (before now : FilesState) (out_before out_now : SinkState) (result : Status) → asks ≡ true → result ≡ Memory → out_now ≡ out_before → EndCause asks before out_before now out_now result
+gave_up asks before now out_before out_now result may e same = subst (λ s. EndCause asks before out_before now out_now s) (sym e) (inl (may, same))
 
 pub ends_caused : (asks : Bool) (plan : Plan) (before : FilesState) (out_before : SinkState) (now : FilesState) (out_now : SinkState) (result : Status) → Ends asks plan before out_before now out_now result → EndCause asks before out_before now out_now result
-ends_caused asks (reads name limit next) before out_before now out_now result (inl h) = gave_up asks before now out_before out_now result h.may h.is
+ends_caused asks (reads name limit next) before out_before now out_now result (inl h) = gave_up asks before now out_before out_now result h.may h.is h.out
 ends_caused asks (reads name limit next) before out_before now out_now result (inr (inl h)) =
-    says_caused asks before now out_before out_now _ _ result h.says (read_caused asks before now out_before out_now name limit h.trouble h.cause)
+    read_caused asks before now out_before out_now name limit h.trouble result h.cause h.says
 ends_caused asks (reads name limit next) before out_before now out_now result (inr (inr h)) =
     earlier asks before h.1 now out_before out_now result h.2.counts (ends_caused asks (next h.0) h.1 out_before now out_now result h.3)
-ends_caused asks (commits next) before out_before now out_now result (inl h) = gave_up asks before now out_before out_now result h.may h.is
+ends_caused asks (commits next) before out_before now out_now result (inl h) = gave_up asks before now out_before out_now result h.may h.is h.out
 ends_caused asks (commits next) before out_before now out_now result (inr h) =
     no_longer_asks asks before now out_before out_now result (ends_caused false next before out_before now out_now result h)
-ends_caused asks (answers answer line) before out_before now out_now result (inl h) = gave_up asks before now out_before out_now result h.may h.is
+ends_caused asks (answers answer line) before out_before now out_now result (inl h) = gave_up asks before now out_before out_now result h.may h.is h.out
 ends_caused asks (answers answer line) before out_before now out_now result (inr h) =
     says_caused asks before now out_before out_now _ _ result h.1 (answer_caused asks before now out_before out_now answer)

@@ -6,17 +6,16 @@ use Rattle.q_io.specs.FilesMeaning.{Tree, FilesState}
 use Rattle.q_io.specs.SinkMeaning.{SinkState, PutsAll}
 use Rattle.q_io.specs.declared.Put.{Put}
 use Rattle.q_io.specs.declared.Put.TheVariants.{Done as WasPut, Failed as PutFailed, Memory as PutShort}
-use Rattle.vc4c_core.specs.Lines.{Says, status_after, trouble_status}
+use Rattle.vc4c_core.specs.Lines.{Says, SaysTrouble, status_after}
 use Rattle.vc4c_core.specs.Plan.{Plan, reads, commits, answers, Ends}
-use Rattle.vc4c_core.specs.Due.{Place, read, commit, Due, EndsAsDue, StoppedAt, IsQuiet}
+use Rattle.vc4c_core.specs.Due.{Place, read, commit, Due, EndsAsDue, StoppedAt, IsQuiet, name_of}
 use Rattle.vc4c_core.specs.Commands.{Runs, due_for, usage_line}
-use Rattle.vc4c_core.specs.Causes.{EndCause}
+use Rattle.vc4c_core.proofs.Causes.{EndCause}
 use Rattle.vc4c_core.proofs.EndsAsDue.{ends_as_due}
 use Rattle.vc4c_core.proofs.Caused.{ends_caused}
 use Rattle.vc4c_core.specs.declared.status.Status.{Status}
 use Rattle.vc4c_core.specs.declared.status.Status.TheVariants.{Memory, Usage, ReadFault, WriteFault, Missing, TooLong}
 use Rattle.vc4c_core.specs.declared.places.Trouble.{Trouble}
-use Rattle.vc4c_core.specs.declared.places.Trouble.TheVariants.{Memory as IsMemory}
 
 if_told : (told : Option Tree) (P : Tree → Type 0) → ((tree : Tree) → told ≡ Some tree → P tree) → IfSome told P
 if_told None P h = tt
@@ -43,20 +42,16 @@ says_quiet : (before now : SinkState) (line : List ℕ) (status result : Status)
 says_quiet before now line status result q says =
     elim (put_quiet before now line status says.put q says.taken) [ inl e ↦ inl (says.is ∙ e) | inr e ↦ inr (says.is ∙ e) ]
 
-says_short : (before now : SinkState) (line : List ℕ) (trouble : Trouble) (result : Status) → ¬ (Rose before.faults now.faults) → trouble ≡ IsMemory → Says before now line (trouble_status trouble) result → result ≡ Memory
-says_short before now line trouble result q e says =
-    elim (says_quiet before now line (trouble_status trouble) result q says) [ inl s ↦ s ∙ ap trouble_status e | inr s ↦ s ]
-
-fault_quiet : (place : Place) (before now : FilesState) (out_before out_now : SinkState) (line : List ℕ) (trouble : Trouble) (result : Status)
-    → IsQuiet before out_before now out_now → StoppedAt place before now trouble → Says out_before out_now line (trouble_status trouble) result → result ≡ Memory
-fault_quiet (read name) before now out_before out_now line trouble result q h says =
-    elim h [ inl rose ↦ absurd (q.reads rose.1) | inr short ↦ says_short out_before out_now line trouble result q.sink short.0 says ]
-fault_quiet commit before now out_before out_now line trouble result q h says = absurd h
+fault_quiet : (place : Place) (before now : FilesState) (out_before out_now : SinkState) (name : List ℕ) (trouble : Trouble) (result : Status)
+    → IsQuiet before out_before now out_now → StoppedAt place before now trouble → SaysTrouble out_before out_now trouble name result → result ≡ Memory
+fault_quiet (read place_name) before now out_before out_now name trouble result q h says =
+    elim h [ inl rose ↦ absurd (q.reads rose.1) | inr short ↦ (subst (λ t. SaysTrouble out_before out_now t name result) short.0 says).1 ]
+fault_quiet commit before now out_before out_now name trouble result q h says = absurd h
 
 due_quiet : (asks : Bool) (due : Due) (tree : Tree) (before : FilesState) (out_before : SinkState) (now : FilesState) (out_now : SinkState) (result : Status)
     → EndsAsDue asks due tree before out_before now out_now result → IsQuiet before out_before now out_now → (result ≡ due.status) ⊎ (result ≡ Memory)
 due_quiet asks due tree before out_before now out_now result (inl h) q = says_quiet out_before out_now due.line due.status result q.sink h.says
-due_quiet asks due tree before out_before now out_now result (inr (inl h)) q = inr (fault_quiet h.place before now out_before out_now _ h.trouble result q h.stopped h.says)
+due_quiet asks due tree before out_before now out_now result (inr (inl h)) q = inr (fault_quiet h.place before now out_before out_now (name_of h.place) h.trouble result q h.stopped h.says)
 due_quiet asks due tree before out_before now out_now result (inr (inr h)) q = inr h.is
 
 pub runs_quiet : (plan : Option Plan) (before : FilesState) (out_before : SinkState) (now : FilesState) (out_now : SinkState) (result : Status)
@@ -73,19 +68,26 @@ runs_usage (Some plan) before out_before now out_now result h e =
     absurd (subst (λ s. EndCause true before out_before now out_now s) e (ends_caused true plan before out_before now out_now result h))
 
 -- the cause of each status but Usage
-usage_caused : (before now : FilesState) (out_before out_now : SinkState) (line : List ℕ) (put : Put) (P : Status → Type 0) → P Usage → P Memory → (Rose out_before.faults out_now.faults → P WriteFault) → PutsAll out_before out_now line put → P (status_after put Usage)
+usage_caused : (before now : FilesState) (out_before out_now : SinkState) (line : List ℕ) (put : Put) (P : Status → Type 0) → P Usage → (Rose out_before.shortages out_now.shortages → P Memory) → (Rose out_before.faults out_now.faults → P WriteFault) → PutsAll out_before out_now line put → P (status_after put Usage)
 usage_caused before now out_before out_now line WasPut P u m w taken = u
 usage_caused before now out_before out_now line PutFailed P u m w taken = w taken.0
-usage_caused before now out_before out_now line PutShort P u m w taken = m
+usage_caused before now out_before out_now line PutShort P u m w taken = m taken.0
 
 pub record Caused (before : FilesState) (out_before : SinkState) (now : FilesState) (out_now : SinkState) (result : Status) : Type 0 where
+  pub memory : result ≡ Memory → Rose before.shortages now.shortages ⊎ (Rose out_before.shortages out_now.shortages ⊎ (out_now ≡ out_before))
   pub read_fault : result ≡ ReadFault → Rose before.read_faults now.read_faults
   pub write_fault : result ≡ WriteFault → Rose before.write_faults now.write_faults ⊎ Rose out_before.faults out_now.faults
   pub missing : result ≡ Missing → Rose before.misses now.misses
   pub too_long : result ≡ TooLong → Rose before.over_long now.over_long
 
+memory_known : (A B C : Type 0) → ((true ≡ true) × A) ⊎ (B ⊎ C) → B ⊎ (C ⊎ A)
+memory_known A B C (inl h) = inr (inr h.1)
+memory_known A B C (inr (inl h)) = inl h
+memory_known A B C (inr (inr h)) = inr (inl h)
+
 cause_known : (before : FilesState) (out_before : SinkState) (now : FilesState) (out_now : SinkState) (result : Status) → EndCause true before out_before now out_now result → Caused before out_before now out_now result
 cause_known before out_before now out_now result c = record {
+  memory = λ e. memory_known _ _ _ (subst (λ s. EndCause true before out_before now out_now s) e c);
   read_fault = λ e. subst (λ s. EndCause true before out_before now out_now s) e c;
   write_fault = λ e. subst (λ s. EndCause true before out_before now out_now s) e c;
   missing = λ e. subst (λ s. EndCause true before out_before now out_now s) e c;
@@ -94,14 +96,16 @@ cause_known before out_before now out_now result c = record {
 
 usage_known : (before : FilesState) (out_before : SinkState) (now : FilesState) (out_now : SinkState) → Caused before out_before now out_now Usage
 usage_known before out_before now out_now = record {
+  memory = λ e. absurd (cc);
   read_fault = λ e. absurd (cc);
   write_fault = λ e. absurd (cc);
   missing = λ e. absurd (cc);
   too_long = λ e. absurd (cc);
 }
 
-short_known : (before : FilesState) (out_before : SinkState) (now : FilesState) (out_now : SinkState) → Caused before out_before now out_now Memory
-short_known before out_before now out_now = record {
+short_known : (before : FilesState) (out_before : SinkState) (now : FilesState) (out_now : SinkState) → Rose out_before.shortages out_now.shortages → Caused before out_before now out_now Memory
+short_known before out_before now out_now rose = record {
+  memory = λ e. inr (inl rose);
   read_fault = λ e. absurd (cc);
   write_fault = λ e. absurd (cc);
   missing = λ e. absurd (cc);
@@ -110,6 +114,7 @@ short_known before out_before now out_now = record {
 
 fault_known : (before : FilesState) (out_before : SinkState) (now : FilesState) (out_now : SinkState) → Rose out_before.faults out_now.faults → Caused before out_before now out_now WriteFault
 fault_known before out_before now out_now rose = record {
+  memory = λ e. absurd (cc);
   read_fault = λ e. absurd (cc);
   write_fault = λ e. inr rose;
   missing = λ e. absurd (cc);

@@ -3,7 +3,7 @@ use Rattle.std.proofs.Common.{◌≡◌, inl, inr, ℕ, ◌≤◌, ◌<◌, Bool
 use Rattle.std.specs.Prelude.{Option, Some, None, IfSome, nat_le}
 use Rattle.q_io.specs.FilesMeaning.{Tree, FilesState, FilesCountsStay}
 use Rattle.q_io.specs.SinkMeaning.{SinkState}
-use Rattle.vc4c_core.specs.Lines.{Says, trouble_line, trouble_status}
+use Rattle.vc4c_core.specs.Lines.{SaysTrouble}
 use Rattle.vc4c_core.specs.Plan.{Plan, reads, commits, answers, Ends, GivesUp, ReadTrouble}
 use Rattle.vc4c_core.specs.Due.{Place, read, commit, Due, then_due, trouble_due, due_read, due_of, StoppedAt, EndsAsDue}
 use Rattle.vc4c_core.specs.declared.status.Status.{Status}
@@ -112,7 +112,7 @@ stops_at_read : (asks : Bool) (name : List ℕ) (limit : ℕ) (next : List ℕ �
     → now.told ≡ before.told
     → (trouble : Trouble)
     → ReadTrouble before now name limit trouble
-    → Says out_before out_now (trouble_line trouble name) (trouble_status trouble) result
+    → SaysTrouble out_before out_now trouble name result
     → EndsAsDue asks (due_read name limit (tree name) next) tree before out_before now out_now result
 stops_at_read asks name limit next tree before now out_before out_now result told files IsMissing cause says =
     let lacks : tree name ≡ None = told_at before.told tree (λ t. t name ≡ None) told cause.1 in

@@ -9,12 +9,12 @@ use Rattle.q_io.specs.declared.Put.TheVariants.{Done as WasPut, Failed as PutFai
 use Rattle.qpu_machine.specs.MachineState.{stop_of}
 use Rattle.qpu_machine.specs.declared.state.Stop.{Stop}
 use Rattle.qpu_machine.specs.declared.state.Stop.TheVariants as stop
-use Rattle.vc4c_core.specs.Lines.{Says, status_after, trouble_status}
+use Rattle.vc4c_core.specs.Lines.{Says, SaysTrouble, status_after}
 use Rattle.vc4c_core.specs.Plan.{Ends, HasRead, status_of}
 use Rattle.vc4c_core.specs.ModuleBytes.{module_of}
 use Rattle.vc4c_core.specs.LaunchText.{launch_of}
 use Rattle.vc4c_core.specs.Report.{report}
-use Rattle.vc4c_core.specs.Small.{ran}
+use Rattle.vc4c_core.specs.Small.{machine_after}
 use Rattle.vc4c_core.specs.Exec.{exec_plan, launch_plan, report_plan, after_module, after_launch, module_limit, launch_limit, module_line, launch_line, answer_of, IsRunStatus, Executed, RefusedModule, RefusedLaunch, ExecAnswers}
 use Rattle.vc4c_core.specs.Commands.{plan_of, Runs, IfExec}
 use Rattle.vc4c_core.proofs.ModuleLaws.{module_of-some, module_of-IsCode, module_of-bytes}
@@ -56,20 +56,20 @@ put_cases before now line status result PutShort taken e = inl (subst IsOutside 
 says_cases : (before now : SinkState) (line : List ℕ) (status result : Status) → Says before now line status result → IsOutside result ⊎ ((result ≡ status) × Gains before now line)
 says_cases before now line status result says = put_cases before now line status result says.put says.taken says.is
 
-trouble_outside : (trouble : Trouble) → IsOutside (trouble_status trouble)
-unfolding IsOutside
-trouble_outside IsMissing = tt
-trouble_outside IsTooLong = tt
-trouble_outside IsReadFault = tt
-trouble_outside IsMemory = tt
-
 short_outside : (result : Status) → result ≡ Memory → IsOutside result
 unfolding IsOutside
 short_outside result e = subst IsOutside (sym e) tt
 
-says_outside : (before now : SinkState) (line : List ℕ) (trouble : Trouble) (result : Status) → Says before now line (trouble_status trouble) result → IsOutside result
-says_outside before now line trouble result says =
-    elim (says_cases before now line (trouble_status trouble) result says) [ inl h ↦ h | inr h ↦ subst IsOutside (sym h.0) (trouble_outside trouble) ]
+line_outside : (before now : SinkState) (line : List ℕ) (status result : Status) → Says before now line status result → IsOutside status → IsOutside result
+line_outside before now line status result says h =
+    elim (says_cases before now line status result says) [ inl other ↦ other | inr same ↦ subst IsOutside (sym same.0) h ]
+
+says_outside : (before now : SinkState) (name : List ℕ) (trouble : Trouble) (result : Status) → SaysTrouble before now trouble name result → IsOutside result
+unfolding IsOutside
+says_outside before now name IsMissing result says = line_outside before now _ Missing result says tt
+says_outside before now name IsTooLong result says = line_outside before now _ TooLong result says tt
+says_outside before now name IsReadFault result says = line_outside before now _ ReadFault result says tt
+says_outside before now name IsMemory result says = short_outside result says.1
 
 holds_earlier : (before mid : FilesState) (name bytes : List ℕ) → mid.told ≡ before.told → Holds mid name bytes → Holds before name bytes
 holds_earlier before mid name bytes e h = subst (λ told. Holds (record before { told = told }) name bytes) e h
@@ -77,12 +77,12 @@ holds_earlier before mid name bytes e h = subst (λ told. Holds (record before {
 report_end : (module_name launch_name words bytes launch : List ℕ) (rounds : ℕ) (before mid last now : FilesState) (out_before out_now : SinkState) (result : Status)
     → HasRead before mid module_name module_limit bytes → module_of bytes ≡ Some words
     → HasRead mid last launch_name launch_limit launch → launch_of launch ≡ Some rounds
-    → Ends false (report_plan (ran words rounds)) last out_before now out_now result
+    → Ends false (report_plan (machine_after words rounds)) last out_before now out_now result
     → ExecEnd module_name launch_name before out_before now out_now result
 unfolding report_plan
 report_end module_name launch_name words bytes launch rounds before mid last now out_before out_now result read is read_launch launch_is (inl h) = outside (short_outside result h.is)
 report_end module_name launch_name words bytes launch rounds before mid last now out_before out_now result read is read_launch launch_is (inr (same, says)) =
-    elim (says_cases out_before out_now (report (ran words rounds)) (status_of (answer_of (stop_of (ran words rounds)))) result says) [
+    elim (says_cases out_before out_now (report (machine_after words rounds)) (status_of (answer_of (stop_of (machine_after words rounds)))) result says) [
       | inl h ↦ outside h
       | inr h ↦ executed (record {
         words = words;

@@ -1,3 +1,4 @@
+pub mod Causes
 pub mod ReportLaws
 pub mod SmallLaws
 pub mod ScheduleLaws

@@ -4,7 +4,7 @@ use Rattle.q_io.specs.Rose.{Rose}
 use Rattle.q_io.specs.FilesMeaning.{Tree, FilesState}
 use Rattle.q_io.specs.SinkMeaning.{SinkState}
 use Rattle.vc4c_core.specs.Plan.{Plan, reads, commits, answers, status_of}
-use Rattle.vc4c_core.specs.Lines.{Says, trouble_line, trouble_status}
+use Rattle.vc4c_core.specs.Lines.{Says, SaysTrouble, trouble_line, trouble_status}
 use Rattle.vc4c_core.specs.declared.status.Status.{Status}
 use Rattle.vc4c_core.specs.declared.status.Status.TheVariants.{Memory}
 use Rattle.vc4c_core.specs.declared.places.Trouble.{Trouble}
@@ -68,7 +68,7 @@ pub record AtFault (due : Due) (tree : Tree) (before : FilesState) (now : FilesS
   pub trouble : Trouble
   pub stopped : StoppedAt place before now trouble
   pub files : now.told ≡ Some tree
-  pub says : Says out_before out_now (trouble_line trouble (name_of place)) (trouble_status trouble) result
+  pub says : SaysTrouble out_before out_now trouble (name_of place) result
 
 -- want of memory before the machine's first step: the places before it were passed and nothing was written to the sink
 pub record ShortOfMemory (asks : Bool) (due : Due) (tree : Tree) (now : FilesState) (out_before out_now : SinkState) (result : Status) : Type 0 where

@@ -9,7 +9,7 @@ use Rattle.vc4c_core.specs.Plan.{Plan, reads, commits, answers, Answer, done, ba
 use Rattle.vc4c_core.specs.ModuleBytes.{module_bytes, module_of, IsCode}
 use Rattle.vc4c_core.specs.LaunchText.{launch_text, launch_of}
 use Rattle.vc4c_core.specs.Report.{report}
-use Rattle.vc4c_core.specs.Small.{ran}
+use Rattle.vc4c_core.specs.Small.{machine_after}
 use Rattle.vc4c_core.specs.declared.status.Status.{Status}
 use Rattle.vc4c_core.specs.declared.status.Status.TheVariants.{Done, Memory, Usage, ReadFault, WriteFault, Missing, TooLong, Refused, BadModule, BadLaunch, Broken, Unfinished, NotSafe}
 use Rattle.vc4c_core.specs.declared.module_file.ModuleFault.{ModuleFault}
@@ -44,7 +44,7 @@ RefusesModule NotModule before now result = Says before now module_line BadModul
 RefusesModule FaultMemory before now result = (now ≡ before) × (result ≡ Memory)
 
 abbrev pub after_launch : List ℕ → Option ℕ → Plan
-after_launch words (Some rounds) = commits (report_plan (ran words rounds))
+after_launch words (Some rounds) = commits (report_plan (machine_after words rounds))
 after_launch words None = answers bad_launch launch_line
 
 -- from the read of the launch on
@@ -82,9 +82,9 @@ pub record Executed (module_name launch_name : List ℕ) (before : FilesState) (
   pub module_file : Holds before module_name (module_bytes words)
   pub few : rounds < 2 ^ 64
   pub launch_file : Holds before launch_name (launch_text rounds)
-  pub status : result ≡ status_of (answer_of (stop_of (ran words rounds)))
+  pub status : result ≡ status_of (answer_of (stop_of (machine_after words rounds)))
   pub files : now.told ≡ before.told
-  pub line : Gains out_before out_now (report (ran words rounds))
+  pub line : Gains out_before out_now (report (machine_after words rounds))
 
 -- The module's file is the spelling of no module, and the line says so.
 pub record RefusedModule (module_name : List ℕ) (before : FilesState) (out_before : SinkState) (now : FilesState) (out_now : SinkState) : Type 0 where

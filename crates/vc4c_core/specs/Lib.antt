@@ -1,7 +1,7 @@
 pub mod Lines
 pub mod Plan
 pub mod Due
-pub mod Causes
+pub mod StatusCode
 pub mod Report
 pub mod Schedule
 pub mod Small

@@ -8,7 +8,7 @@ use Rattle.vc4c_core.specs.declared.status.Status.TheVariants.{Memory, ReadFault
 use Rattle.vc4c_core.specs.declared.places.Trouble.{Trouble}
 use Rattle.vc4c_core.specs.declared.places.Trouble.TheVariants.{Missing as IsMissing, TooLong as IsTooLong, ReadFault as IsReadFault, Memory as IsMemory}
 
--- the line of a trouble with a file. Want of memory has none
+-- the line of a trouble with a file
 abbrev pub trouble_line : Trouble → List ℕ → List ℕ
 trouble_line IsMissing name = codes "missing " ++ (name ++ codes "\n")
 trouble_line IsTooLong name = codes "too long " ++ (name ++ codes "\n")
@@ -33,3 +33,10 @@ pub record Says (before now : SinkState) (line : List ℕ) (status result : Stat
   pub put : Put
   pub taken : PutsAll before now line put
   pub is : result ≡ status_after put status
+
+-- A trouble with a file was said by its line. Of want of memory nothing is said.
+abbrev pub SaysTrouble : SinkState → SinkState → Trouble → List ℕ → Status → Type 0
+SaysTrouble before now IsMissing name result = Says before now (trouble_line IsMissing name) Missing result
+SaysTrouble before now IsTooLong name result = Says before now (trouble_line IsTooLong name) TooLong result
+SaysTrouble before now IsReadFault name result = Says before now (trouble_line IsReadFault name) ReadFault result
+SaysTrouble before now IsMemory name result = (now ≡ before) × (result ≡ Memory)

@@ -3,7 +3,7 @@ use Rattle.std.specs.Prelude.{◌≡◌, ◌⊎◌, ℕ, ◌≤◌, Bool, true, 
 use Rattle.q_io.specs.Rose.{Rose}
 use Rattle.q_io.specs.FilesMeaning.{FilesState, FilesCountsStay, Holds, Lacks, Passes}
 use Rattle.q_io.specs.SinkMeaning.{SinkState}
-use Rattle.vc4c_core.specs.Lines.{Says, trouble_line, trouble_status}
+use Rattle.vc4c_core.specs.Lines.{Says, SaysTrouble}
 use Rattle.vc4c_core.specs.declared.status.Status.{Status}
 use Rattle.vc4c_core.specs.declared.status.Status.TheVariants.{Done, Memory, BadModule, BadLaunch, Broken, Unfinished}
 use Rattle.vc4c_core.specs.declared.places.Trouble.{Trouble}
@@ -53,7 +53,7 @@ pub record StopsAtRead (before now : FilesState) (out_before out_now : SinkState
   pub files : now.told ≡ before.told
   pub trouble : Trouble
   pub cause : ReadTrouble before now name limit trouble
-  pub says : Says out_before out_now (trouble_line trouble name) (trouble_status trouble) result
+  pub says : SaysTrouble out_before out_now trouble name result
 
 -- want of memory, while memory may be asked for: nothing has changed and nothing is written
 pub record GivesUp (asks : Bool) (before now : FilesState) (out_before out_now : SinkState) (result : Status) : Type 0 where

@@ -1,5 +1,5 @@
 -- The opening of a launch of one QPU and one item without buffers.
-use Rattle.std.specs.Prelude.{ℕ, List, [], ◌∷◌, replicate}
+use Rattle.std.specs.Prelude.{ℕ, ◌+◌, ◌*◌, ◌/◌, List, [], ◌∷◌, replicate}
 use Rattle.qpu_machine.specs.Planned.{Planned}
 use Rattle.qpu_machine.specs.Opening.{opening, regs_of}
 use Rattle.qpu_machine.specs.MachineState.{MachineState, machine_run}
@@ -10,9 +10,13 @@ use Rattle.vc4c_core.specs.Schedule.{rounds_of}
 abbrev pub scratch_start : ℕ
 scratch_start = 65536
 
--- up to where the region after the empty scratch would begin: 64 bytes past it
+-- where the region after one that ends here begins: 64 bytes later, at a multiple of 64
+abbrev pub next_start : ℕ → ℕ
+next_start end = (end + 64 + 63) / 64 * 64
+
+-- the memory ends where a region after the empty scratch would begin
 abbrev pub memory_size : ℕ
-memory_size = 65600
+memory_size = next_start scratch_start
 
 -- the scratch's address, the QPU's number, the number of QPUs, of batches and of items, the work dimension, the global and the local sizes
 abbrev pub small_uniforms : List ℕ
@@ -39,5 +43,5 @@ unfoldable pub small_opening : List ℕ → MachineState
 small_opening words = opening (small_plan words) (regs_of Zero 1)
 
 -- the machine after so many rounds
-unfoldable pub ran : List ℕ → ℕ → MachineState
-ran words rounds = machine_run (rounds_of rounds 1) (small_opening words)
+unfoldable pub machine_after : List ℕ → ℕ → MachineState
+machine_after words rounds = machine_run (rounds_of rounds 1) (small_opening words)

@@ -4,14 +4,14 @@ ghost use Rattle.std.specs.Prelude.{◌≡◌, ◌<◌, ◌^◌, true};
 ghost use Rattle.q_io.specs.FilesMeaning.{FilesState};
 ghost use Rattle.vc4c_core.specs.Plan.{Ends, commits};
 ghost use Rattle.vc4c_core.specs.ModuleBytes.{IsCode};
-ghost use Rattle.vc4c_core.specs.Small.{ran};
+ghost use Rattle.vc4c_core.specs.Small.{machine_after};
 ghost use Rattle.vc4c_core.specs.Exec.{exec_plan, launch_plan, report_plan, RefusesModule};
 
 use crate::launch_text::read_launch;
 use crate::module_file::{ModuleFault, read_module};
-use crate::places::{read_place, say, stop};
+use crate::places::{read_place, say, say_trouble};
 use crate::play::play;
-use crate::small::open;
+use crate::small::{QPUS, open};
 use crate::status::Status;
 use q_io::{Files, Sink};
 use std::alloc::Global;
@@ -34,7 +34,7 @@ pub fn exec<F: Files, S: Sink>(
 {
     let bytes = match read_place(files, module_name, MODULE_LIMIT) {
         Ok(bytes) => bytes,
-        Err(trouble) => return stop(out, trouble, module_name),
+        Err(trouble) => return say_trouble(out, trouble, module_name),
     };
     match read_module(alloc, &bytes) {
         Ok(words) => exec_launch(alloc, words, launch_name, files, out),
@@ -66,7 +66,7 @@ fn exec_launch<F: Files, S: Sink>(
 {
     let bytes = match read_place(files, launch_name, LAUNCH_LIMIT) {
         Ok(bytes) => bytes,
-        Err(trouble) => return stop(out, trouble, launch_name),
+        Err(trouble) => return say_trouble(out, trouble, launch_name),
     };
     match read_launch(&bytes) {
         Some(rounds) => exec_rounds(alloc, words, rounds, out),
@@ -75,16 +75,13 @@ fn exec_launch<F: Files, S: Sink>(
 }
 
 /// Takes all memory, and then runs the machine.
-#[tactic(auto, unfolding(crate::specs::Small::ran, crate::specs::Exec::report_plan))]
+#[tactic(auto, unfolding(crate::specs::Small::machine_after, crate::specs::Exec::report_plan))]
 fn exec_rounds<S: Sink>(alloc: Global, words: Vec<u64>, rounds: u64, out: &mut S) -> Status
     requires { IsCode words.items }
-    ensures { (files : FilesState) → Ends true (commits (report_plan (ran words.items rounds))) files (S.state out.old) files (S.state out.new) result }
+    ensures { (files : FilesState) → Ends true (commits (report_plan (machine_after words.items rounds))) files (S.state out.old) files (S.state out.new) result }
 {
     match open(alloc, words) {
-        Ok(machine) => {
-            let mut machine = machine;
-            play(&mut machine, rounds, 1, out)
-        }
+        Ok(mut machine) => play(&mut machine, rounds, QPUS, out),
         Err(_) => Status::Memory,
     }
 }

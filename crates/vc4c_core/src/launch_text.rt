@@ -8,7 +8,7 @@ use std::str;
 /// All that stands before the rounds.
 const BEGINNING: &str = "launch 1\nqpus 1\nglobal 1\nlocal 1\nschedule rr ";
 
-/// Whether no plus stands before the digits, and no zero before further ones.
+/// `parse` takes a plus and leading zeros too, which a launch's number doesn't have.
 fn is_plain(text: &str) -> bool
     ensures { IsTrue result ↔ IsPlain text.now }
 {

@@ -71,6 +71,10 @@ pub fn run<F: Files, S: Sink>(alloc: Global, words: &[String], files: &mut F, ou
     // No file is ever changed.
     ensures files { (F.state files.new).told ≡ (F.state files.old).told }
 
+    // Want of memory without a counted shortage has written nothing.
+    ensures memory { result ≡ Status.Memory → Rose (F.state files.old).shortages (F.state files.new).shortages
+        ⊎ (Rose (S.state out.old).shortages (S.state out.new).shortages ⊎ ((S.state out.new) ≡ (S.state out.old))) }
+
     // A fault, a missing file and an over-long file are answered only where such a thing came in this call.
     ensures read_fault { result ≡ Status.ReadFault → Rose (F.state files.old).read_faults (F.state files.new).read_faults }
     ensures write_fault { result ≡ Status.WriteFault → Rose (F.state files.old).write_faults (F.state files.new).write_faults ⊎ Rose (S.state out.old).faults (S.state out.new).faults }
@@ -92,5 +96,7 @@ pub fn run<F: Files, S: Sink>(alloc: Global, words: &[String], files: &mut F, ou
     run_words(alloc, words, files, out)
 }
 
+#[cfg(test)]
+mod fault_tests;
 #[cfg(test)]
 mod tests;

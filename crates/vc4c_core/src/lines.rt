@@ -8,7 +8,7 @@ use arrayvec::ArrayVec;
 use hex::encode_to_slice;
 use itoa::Buffer;
 
-/// A line of at most 192 bytes.
+/// A line of a report. The longest, of the counts, has at most 157 bytes by the bounds below.
 pub type Line = ArrayVec<u8, 192>;
 
 /// Appends a text.

@@ -35,9 +35,9 @@ pub enum ModuleFault {
     Memory,
 }
 
-// The header of a module of so many words.
+/// The header of a module of so many words.
 #[tactic(auto, unfolding(crate::specs::ModuleBytes::header_bytes))]
-fn header(count: u32) -> [u8; 40]
+fn header(count: u32) -> [u8; HEADER_BYTES]
     ensures { result ≡ header_bytes count }
 {
     let [a, b, c, d] = count.to_le_bytes();
@@ -47,7 +47,7 @@ fn header(count: u32) -> [u8; 40]
     ]
 }
 
-// The number of words: the length of the file gives it, and the header must agree.
+/// The number of words: the length of the file gives it, and the header must agree.
 fn count_words(bytes: &[u8]) -> Option<usize>
     ensures found { IfSome result (HasHeader bytes.now) }
     ensures none { IfNone result ((count : ℕ) → HasHeader bytes.now count → ⊥) }
@@ -68,7 +68,7 @@ fn count_words(bytes: &[u8]) -> Option<usize>
     }
 }
 
-// The word whose eight bytes are the i-th eight.
+/// The word whose eight bytes are the i-th eight.
 fn word_at(code: &[u8], i: usize) -> u64
     requires { 8 * i + 8 ≤ length code.now }
     ensures fits { result < 2 ^ 64 }
@@ -78,7 +78,7 @@ fn word_at(code: &[u8], i: usize) -> u64
     LittleEndian::read_u64(&code[start..start + WORD_BYTES])
 }
 
-// The first `count` words.
+/// The first `count` words.
 fn read_words(alloc: Global, code: &[u8], count: usize) -> Result<Vec<u64>, AllocError>
     requires { length code.now ≡ 8 * count }
     ensures len { IfOk result (λ words. length words.items ≡ count) }

@@ -2,7 +2,7 @@
 
 ghost use Rattle.std.specs.Prelude.{◌≡◌, ◌++◌, codes, IfOk, IfErr};
 ghost use Rattle.q_io.specs.FilesMeaning.{FilesCountsStay};
-ghost use Rattle.vc4c_core.specs.Lines.{Says, status_after, trouble_line, trouble_status};
+ghost use Rattle.vc4c_core.specs.Lines.{Says, SaysTrouble, status_after};
 ghost use Rattle.vc4c_core.specs.Plan.{HasRead, ReadTrouble};
 
 use crate::status::Status;
@@ -51,20 +51,20 @@ pub fn say<S: Sink>(out: &mut S, line: &[u8], status: Status) -> Status
     after_put(put_all(out, line), status)
 }
 
-/// Writes the line of a trouble with a file.
-pub fn stop<S: Sink>(out: &mut S, trouble: Trouble, name: &str) -> Status
-    ensures { Says (S.state out.old) (S.state out.new) (trouble_line trouble name.now) (trouble_status trouble) result }
+/// Writes the line of a trouble with a file. Want of memory has none.
+pub fn say_trouble<S: Sink>(out: &mut S, trouble: Trouble, name: &str) -> Status
+    ensures { SaysTrouble (S.state out.old) (S.state out.new) trouble name.now result }
 {
     match trouble {
         Trouble::Missing => say_name(out, b"missing ", name, Status::Missing),
         Trouble::TooLong => say_name(out, b"too long ", name, Status::TooLong),
         Trouble::ReadFault => say_name(out, b"read fault ", name, Status::ReadFault),
-        Trouble::Memory => say(out, b"", Status::Memory),
+        Trouble::Memory => Status::Memory,
     }
 }
 
-fn say_name<S: Sink>(out: &mut S, words: &[u8], name: &str, status: Status) -> Status
-    ensures { Says (S.state out.old) (S.state out.new) (words.now ++ (name.now ++ codes "\n")) status result }
+fn say_name<S: Sink>(out: &mut S, label: &[u8], name: &str, status: Status) -> Status
+    ensures { Says (S.state out.old) (S.state out.new) (label.now ++ (name.now ++ codes "\n")) status result }
 {
-    after_put(put_three(out, words, name.as_bytes(), b"\n"), status)
+    after_put(put_three(out, label, name.as_bytes(), b"\n"), status)
 }

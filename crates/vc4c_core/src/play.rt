@@ -1,6 +1,6 @@
 //! The run of a machine and its report.
 
-ghost use Rattle.std.specs.Prelude.{◌≡◌, ◌≢◌, length, IsTrue};
+ghost use Rattle.std.specs.Prelude.{◌≡◌, ◌≢◌, ◌↔◌, length, IsTrue};
 ghost use Rattle.qpu_machine.specs.MachineState.{machine_run, stop_of};
 ghost use Rattle.vc4c_core.specs.Lines.{Says};
 ghost use Rattle.vc4c_core.specs.Plan.{status_of};
@@ -26,7 +26,7 @@ fn play_round(machine: &mut Machine, qpus: u32)
 }
 
 fn has_stopped(machine: &Machine) -> bool
-    ensures { IsTrue result → stop_of machine.now ≢ Stop.Going }
+    ensures { IsTrue result ↔ (stop_of machine.now ≢ Stop.Going) }
 {
     machine.state() != Stop::Going
 }

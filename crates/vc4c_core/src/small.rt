@@ -7,6 +7,9 @@ ghost use Rattle.vc4c_core.specs.Small.{gap, small_plan, small_opening};
 use qpu_machine::{Fill, Machine, Plan, Region};
 use std::alloc::{AllocError, Global};
 
+/// The QPUs of a small launch.
+pub const QPUS: u32 = 1;
+
 /// Where the first region stands.
 const SCRATCH_START: u32 = 65_536;
 
@@ -43,8 +46,8 @@ fn plan(alloc: Global, words: Vec<u64>) -> Result<Plan, AllocError>
     )?;
     Ok(Plan {
         words,
-        qpus: 1,
-        per: 12,
+        qpus: QPUS,
+        per: UNIFORMS.len() as u32,
         uniforms,
         memory,
         buffers: Vec::new(alloc),

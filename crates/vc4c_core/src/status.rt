@@ -1,7 +1,7 @@
 //! The answers of the program.
 
 ghost use Rattle.std.specs.Prelude.{◌≡◌};
-ghost use Rattle.vc4c_core.specs.Causes.{code_of};
+ghost use Rattle.vc4c_core.specs.StatusCode.{code_of};
 
 /// How a call of the program ended.
 #[derive(Clone, Copy, Debug, PartialEq, Eq)]

@@ -30,7 +30,7 @@ fn module(alloc: Global, words: &[u64]) -> Result<Vec<u8>, AllocError> {
     Ok(bytes)
 }
 
-fn words(alloc: Global, line: &str) -> Result<Vec<String>, AllocError> {
+pub fn words(alloc: Global, line: &str) -> Result<Vec<String>, AllocError> {
     let mut words = Vec::new(alloc);
     for word in line.split_whitespace() {
         words.push(String::from_str(alloc, word)?)?;
@@ -176,11 +176,12 @@ fn runs_end_as_their_words_say(rt: HostRuntime) -> Result<(), Fail> {
     Ok(())
 }
 
+/// A launch of a thousand rounds.
+pub const LAUNCH: &str = "launch 1\nqpus 1\nglobal 1\nlocal 1\nschedule rr 1000\n";
+
 #[test]
-fn refusals_say_their_cause(rt: HostRuntime) -> Result<(), Fail> {
+fn words_of_no_form_are_usage(rt: HostRuntime) -> Result<(), Fail> {
     let alloc = rt.alloc();
-    let good = FOUR_WORDS.as_slice();
-    let launch = "launch 1\nqpus 1\nglobal 1\nlocal 1\nschedule rr 1000\n";
     let usage =
         "usage: compile SRC KERNEL MODULE | exec MODULE LAUNCH | run SRC KERNEL MODULE LAUNCH | judge SRC KERNEL LAUNCH TURNS | disasm MODULE | demo SEED\n";
     for line in [
@@ -194,20 +195,32 @@ fn refusals_say_their_cause(rt: HostRuntime) -> Result<(), Fail> {
         "disasm m",
         "compile m k l",
     ] {
-        let (got, text) = answer(alloc, line, good, launch)?;
+        let (got, text) = answer(alloc, line, &FOUR_WORDS, LAUNCH)?;
         assert_eq!(rt; code(got), 2, "at {line}");
         assert!(rt; text.as_slice() == usage.as_bytes());
     }
+    Ok(())
+}
+
+#[test]
+fn other_modules_are_refused(rt: HostRuntime) -> Result<(), Fail> {
+    let alloc = rt.alloc();
     for bytes in [
         &FOUR_WORDS[..71],
         &FOUR_WORDS[..40],
         b"".as_slice(),
         b"VC4Q".as_slice(),
     ] {
-        let (got, text) = answer(alloc, "exec m l", bytes, launch)?;
+        let (got, text) = answer(alloc, "exec m l", bytes, LAUNCH)?;
         assert_eq!(rt; code(got), 8);
         assert!(rt; text.as_slice() == b"bad module 0\n".as_slice());
     }
+    Ok(())
+}
+
+#[test]
+fn other_launches_are_refused(rt: HostRuntime) -> Result<(), Fail> {
+    let alloc = rt.alloc();
     for other in [
         "",
         "launch 1\nqpus 13\nglobal 1\nlocal 1\nschedule rr 1000\n",
@@ -215,12 +228,9 @@ fn refusals_say_their_cause(rt: HostRuntime) -> Result<(), Fail> {
         "launch 1\nqpus 1\nglobal 1\nlocal 1\nschedule rr 18446744073709551616\n",
         "launch 1\nqpus 1\nglobal 1\nlocal 1\nschedule rr 1000",
     ] {
-        let (got, text) = answer(alloc, "exec m l", good, other)?;
+        let (got, text) = answer(alloc, "exec m l", &FOUR_WORDS, other)?;
         assert_eq!(rt; code(got), 9, "at {other}");
         assert!(rt; text.as_slice() == b"bad launch B1 1\n".as_slice());
     }
-    let (got, text) = answer(alloc, "exec none l", good, launch)?;
-    assert_eq!(rt; code(got), 5);
-    assert!(rt; text.as_slice() == b"missing none\n".as_slice());
     Ok(())
 }

@@ -4,7 +4,7 @@
 use q_io::{HostFiles, HostSink};
 use std::env;
 use std::process::ExitCode;
-use vc4c_core::{code, run};
+use vc4c_core::{Status, code, run};
 
 /// The status where the system doesn't hand over the words.
 const NO_WORDS: u8 = 100;
@@ -16,7 +16,7 @@ fn main(rt: HostRuntime) -> ExitCode {
     let mut words = Vec::new(rt.alloc());
     for word in args.skip(1) {
         if words.push(word).is_err() {
-            return ExitCode::from(NO_WORDS);
+            return ExitCode::from(code(Status::Memory));
         }
     }
     let mut files = HostFiles::new(&rt, rt.alloc());

@@ -10,6 +10,7 @@ returns g c =
       no_form = runs_no_form _ _ _ _ _ _ c.run_words.ensures;
       exec = runs_answers _ _ _ _ _ _ c.run_words.ensures;
       files = runs_files _ _ _ _ _ _ c.run_words.ensures;
+      memory = caused.memory;
       read_fault = caused.read_fault;
       write_fault = caused.write_fault;
       missing = caused.missing;

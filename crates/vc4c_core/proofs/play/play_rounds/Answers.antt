@@ -7,7 +7,7 @@ use Rattle.vc4c_core.proofs.play.play_rounds.Goals as goal
 
 pub returns-then-has_stopped : goal.returns-then-has_stopped
 returns-then-has_stopped c =
-    sym (machine_run-stopped (rounds_of (c.args.rounds - c.loop-round._round) c.args.qpus) c.loop-round.machine (c.has_stopped.ensures c.if-has_stopped.true))
+    sym (machine_run-stopped (rounds_of (c.args.rounds - c.loop-round._round) c.args.qpus) c.loop-round.machine (c.has_stopped.ensures.0 c.if-has_stopped.true))
     ∙ c.loop-round.invariant
 
 pub loop-round-preserved : goal.loop-round-preserved

@@ -1,14 +1,14 @@
 -- The cause that each status needs.
-use Rattle.std.specs.Prelude.{◌≡◌, ◌⊎◌, ℕ, Bool, true, ⊤}
+use Rattle.std.specs.Prelude.{◌≡◌, ◌⊎◌, Bool, true, ⊤}
 use Rattle.q_io.specs.Rose.{Rose}
 use Rattle.q_io.specs.FilesMeaning.{FilesState}
 use Rattle.q_io.specs.SinkMeaning.{SinkState}
 use Rattle.vc4c_core.specs.declared.status.Status.{Status}
 use Rattle.vc4c_core.specs.declared.status.Status.TheVariants.{Done, Memory, Usage, ReadFault, WriteFault, Missing, TooLong, Refused, BadModule, BadLaunch, Broken, Unfinished, NotSafe}
 
--- the counts that rose where a run of a plan ends with a status. Want of memory needs none while memory may be asked for
+-- the counts that rose where a run of a plan ends with a status. Want of memory needs none while memory may be asked for, and then it wrote nothing
 abbrev pub EndCause : Bool → FilesState → SinkState → FilesState → SinkState → Status → Type 0
-EndCause asks before out_before now out_now Memory = (asks ≡ true) ⊎ (Rose before.shortages now.shortages ⊎ Rose out_before.shortages out_now.shortages)
+EndCause asks before out_before now out_now Memory = ((asks ≡ true) × (out_now ≡ out_before)) ⊎ (Rose before.shortages now.shortages ⊎ Rose out_before.shortages out_now.shortages)
 EndCause asks before out_before now out_now ReadFault = Rose before.read_faults now.read_faults
 EndCause asks before out_before now out_now WriteFault = Rose before.write_faults now.write_faults ⊎ Rose out_before.faults out_now.faults
 EndCause asks before out_before now out_now Missing = Rose before.misses now.misses
@@ -21,19 +21,3 @@ EndCause asks before out_before now out_now BadLaunch = ⊤
 EndCause asks before out_before now out_now Broken = ⊤
 EndCause asks before out_before now out_now Unfinished = ⊤
 EndCause asks before out_before now out_now NotSafe = ⊤
-
--- the number of a status
-abbrev pub code_of : Status → ℕ
-code_of Done = 0
-code_of Memory = 1
-code_of Usage = 2
-code_of ReadFault = 3
-code_of WriteFault = 4
-code_of Missing = 5
-code_of TooLong = 6
-code_of Refused = 7
-code_of BadModule = 8
-code_of BadLaunch = 9
-code_of Broken = 10
-code_of Unfinished = 11
-code_of NotSafe = 12
