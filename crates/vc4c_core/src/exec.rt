@@ -30,7 +30,8 @@ pub fn exec<F: Files, S: Sink>(
     files: &mut F,
     out: &mut S,
 ) -> Status
-    ensures { Ends true (exec_plan module_name.now launch_name.now) (F.state files.old) (S.state out.old) (F.state files.new) (S.state out.new) result }
+    ensures { Ends true (exec_plan module_name.now launch_name.now)
+        (F.state files.old) (S.state out.old) (F.state files.new) (S.state out.new) result }
 {
     let bytes = match read_place(files, module_name, MODULE_LIMIT) {
         Ok(bytes) => bytes,
@@ -62,7 +63,8 @@ fn exec_launch<F: Files, S: Sink>(
     out: &mut S,
 ) -> Status
     requires { IsCode words.items }
-    ensures { Ends true (launch_plan words.items launch_name.now) (F.state files.old) (S.state out.old) (F.state files.new) (S.state out.new) result }
+    ensures { Ends true (launch_plan words.items launch_name.now)
+        (F.state files.old) (S.state out.old) (F.state files.new) (S.state out.new) result }
 {
     let bytes = match read_place(files, launch_name, LAUNCH_LIMIT) {
         Ok(bytes) => bytes,
@@ -78,7 +80,9 @@ fn exec_launch<F: Files, S: Sink>(
 #[tactic(auto, unfolding(crate::specs::Small::machine_after, crate::specs::Exec::report_plan))]
 fn exec_rounds<S: Sink>(alloc: Global, words: Vec<u64>, rounds: u64, out: &mut S) -> Status
     requires { IsCode words.items }
-    ensures { (files : FilesState) → Ends true (commits (report_plan (machine_after words.items rounds))) files (S.state out.old) files (S.state out.new) result }
+    ensures { (files : FilesState)
+        → Ends true (commits (report_plan (machine_after words.items rounds)))
+        files (S.state out.old) files (S.state out.new) result }
 {
     match open(alloc, words) {
         Ok(mut machine) => play(&mut machine, rounds, QPUS, out),

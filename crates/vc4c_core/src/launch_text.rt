@@ -29,7 +29,8 @@ fn read_number(text: &str) -> Option<u64>
 /// `read_launch` of a text.
 fn read_text(text: &str) -> Option<u64>
     ensures text { IfSome result (λ rounds. text.now ≡ launch_text rounds) }
-    ensures none { IfNone result ((rounds : ℕ) → rounds < 2 ^ 64 → text.now ≢ launch_text rounds) }
+    ensures none { IfNone result
+        ((rounds : ℕ) → rounds < 2 ^ 64 → text.now ≢ launch_text rounds) }
 {
     let rest = text.strip_prefix(BEGINNING)?;
     let number = rest.strip_suffix('\n')?;
@@ -45,7 +46,8 @@ pub fn read_launch(bytes: &[u8]) -> Option<u64>
     ensures text { IfSome result (λ rounds. bytes.now ≡ launch_text rounds) }
 
     // Refused exactly where they are the text of none.
-    ensures none { IfNone result ((rounds : ℕ) → rounds < 2 ^ 64 → bytes.now ≢ launch_text rounds) }
+    ensures none { IfNone result
+        ((rounds : ℕ) → rounds < 2 ^ 64 → bytes.now ≢ launch_text rounds) }
 {
     let text = str::from_utf8(bytes).ok()?;
     read_text(text)

@@ -42,7 +42,8 @@ fn run_words<F: Files, S: Sink>(
     files: &mut F,
     out: &mut S,
 ) -> Status
-    ensures { Runs (plan_of (map string_bytes words.now)) (F.state files.old) (S.state out.old) (F.state files.new) (S.state out.new) result }
+    ensures { Runs (plan_of (map string_bytes words.now))
+        (F.state files.old) (S.state out.old) (F.state files.new) (S.state out.new) result }
 {
     match command_of(words) {
         Some(
@@ -62,36 +63,51 @@ fn run_words<F: Files, S: Sink>(
 pub fn run<F: Files, S: Sink>(alloc: Global, words: &[String], files: &mut F, out: &mut S) -> Status
     // Usage is answered only where the words are of no form, and then its line is all that is done.
     ensures usage { result ≡ Status.Usage → plan_of (map string_bytes words.now) ≡ None }
-    ensures no_form { plan_of (map string_bytes words.now) ≡ None → ((F.state files.new) ≡ (F.state files.old)) × Says (S.state out.old) (S.state out.new) usage_line Status.Usage result }
+    ensures no_form { plan_of (map string_bytes words.now) ≡ None
+        → ((F.state files.new) ≡ (F.state files.old))
+        × Says (S.state out.old) (S.state out.new) usage_line Status.Usage result }
 
     // The run's stop, a bad module and a bad launch are those of the files that were read.
     ensures exec { IfExec (map string_bytes words.now) (λ module_name launch_name.
-        ExecAnswers module_name launch_name (F.state files.old) (S.state out.old) (F.state files.new) (S.state out.new) result) }
+        ExecAnswers module_name launch_name
+        (F.state files.old) (S.state out.old) (F.state files.new) (S.state out.new) result) }
 
     // No file is ever changed.
     ensures files { (F.state files.new).told ≡ (F.state files.old).told }
 
     // Want of memory without a counted shortage has written nothing.
-    ensures memory { result ≡ Status.Memory → Rose (F.state files.old).shortages (F.state files.new).shortages
-        ⊎ (Rose (S.state out.old).shortages (S.state out.new).shortages ⊎ ((S.state out.new) ≡ (S.state out.old))) }
+    ensures memory { result ≡ Status.Memory
+        → Rose (F.state files.old).shortages (F.state files.new).shortages
+        ⊎ (Rose (S.state out.old).shortages (S.state out.new).shortages
+        ⊎ ((S.state out.new) ≡ (S.state out.old))) }
 
-    // A fault, a missing file and an over-long file are answered only where such a thing came in this call.
-    ensures read_fault { result ≡ Status.ReadFault → Rose (F.state files.old).read_faults (F.state files.new).read_faults }
-    ensures write_fault { result ≡ Status.WriteFault → Rose (F.state files.old).write_faults (F.state files.new).write_faults ⊎ Rose (S.state out.old).faults (S.state out.new).faults }
-    ensures missing { result ≡ Status.Missing → Rose (F.state files.old).misses (F.state files.new).misses }
-    ensures too_long { result ≡ Status.TooLong → Rose (F.state files.old).over_long (F.state files.new).over_long }
+    // A fault, a missing file and an over-long file are answered only where such a thing came in
+    // this call.
+    ensures read_fault { result ≡ Status.ReadFault
+        → Rose (F.state files.old).read_faults (F.state files.new).read_faults }
+    ensures write_fault { result ≡ Status.WriteFault
+        → Rose (F.state files.old).write_faults (F.state files.new).write_faults
+        ⊎ Rose (S.state out.old).faults (S.state out.new).faults }
+    ensures missing { result ≡ Status.Missing
+        → Rose (F.state files.old).misses (F.state files.new).misses }
+    ensures too_long { result ≡ Status.TooLong
+        → Rose (F.state files.old).over_long (F.state files.new).over_long }
 
-    // Where the files are told, it ends as is due of the words, or at a fault or want of memory on the way there.
+    // Where the files are told, it ends as is due of the words, or at a fault or want of memory on
+    // the way there.
     ensures due { IfSome (F.state files.old).told (λ tree.
-        EndsAsDue true (due_for (plan_of (map string_bytes words.now)) tree) tree (F.state files.old) (S.state out.old) (F.state files.new) (S.state out.new) result) }
+        EndsAsDue true (due_for (plan_of (map string_bytes words.now)) tree) tree
+        (F.state files.old) (S.state out.old) (F.state files.new) (S.state out.new) result) }
 
     // Where they are told and no fault came, the status is the one that is due, or want of memory.
     ensures quiet { IfSome (F.state files.old).told (λ tree.
         IsQuiet (F.state files.old) (S.state out.old) (F.state files.new) (S.state out.new)
-        → (result ≡ (due_for (plan_of (map string_bytes words.now)) tree).status) ⊎ (result ≡ Status.Memory)) }
+        → (result ≡ (due_for (plan_of (map string_bytes words.now)) tree).status)
+        ⊎ (result ≡ Status.Memory)) }
 
     // Told or not, it goes through the places in their order.
-    ensures order { Runs (plan_of (map string_bytes words.now)) (F.state files.old) (S.state out.old) (F.state files.new) (S.state out.new) result }
+    ensures order { Runs (plan_of (map string_bytes words.now))
+        (F.state files.old) (S.state out.old) (F.state files.new) (S.state out.new) result }
 {
     run_words(alloc, words, files, out)
 }

@@ -102,7 +102,8 @@ pub fn read_module(alloc: Global, bytes: &[u8]) -> Result<Vec<u64>, ModuleFault>
 
     // It is no module only where the bytes are the spelling of none.
     ensures none { result ≡ Err ModuleFault.NotModule → module_of bytes.now ≡ None }
-    ensures no_spelling { result ≡ Err ModuleFault.NotModule → (words : List ℕ) → IsCode words → bytes.now ≢ module_bytes words }
+    ensures no_spelling { result ≡ Err ModuleFault.NotModule
+        → (words : List ℕ) → IsCode words → bytes.now ≢ module_bytes words }
 
     // Memory lacks only for a module.
     ensures memory { result ≡ Err ModuleFault.Memory → IsSome (module_of bytes.now) }

@@ -21,8 +21,10 @@ pub enum Trouble {
 pub fn read_place<F: Files>(files: &mut F, name: &str, limit: u64) -> Result<Vec<u8>, Trouble>
     ensures counts { FilesCountsStay (F.state files.old) (F.state files.new) }
     ensures files { (F.state files.new).told ≡ (F.state files.old).told }
-    ensures read { IfOk result (λ bytes. HasRead (F.state files.old) (F.state files.new) name.now limit bytes.items) }
-    ensures trouble { IfErr result (ReadTrouble (F.state files.old) (F.state files.new) name.now limit) }
+    ensures read { IfOk result (λ bytes.
+        HasRead (F.state files.old) (F.state files.new) name.now limit bytes.items) }
+    ensures trouble { IfErr result
+        (ReadTrouble (F.state files.old) (F.state files.new) name.now limit) }
 {
     match files.read(name, limit) {
         Got::Found(bytes) => Ok(bytes),

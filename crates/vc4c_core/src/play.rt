@@ -56,7 +56,10 @@ fn status_of_stop(stop: Stop) -> Status
 /// Runs the machine for so many rounds and writes its report. Takes no memory of its own.
 pub fn play<S: Sink>(machine: &mut Machine, rounds: u64, qpus: u32, out: &mut S) -> Status
     requires { qpus ≡ length machine.old.qpus }
-    ensures { Says (S.state out.old) (S.state out.new) (report (machine_run (rounds_of rounds qpus) machine.old)) (status_of (answer_of (stop_of (machine_run (rounds_of rounds qpus) machine.old)))) result }
+    ensures { Says (S.state out.old) (S.state out.new)
+        (report (machine_run (rounds_of rounds qpus) machine.old))
+        (status_of (answer_of (stop_of (machine_run (rounds_of rounds qpus) machine.old))))
+        result }
 {
     play_rounds(machine, rounds, qpus);
     let status = status_of_stop(machine.state());

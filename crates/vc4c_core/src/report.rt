@@ -140,7 +140,8 @@ fn put_stop<S: Sink>(out: &mut S, machine: &Machine) -> Put
 fn put_after_stop<S: Sink>(out: &mut S, machine: &Machine, qpus: u32) -> Put
     requires { qpus ≡ length machine.now.qpus }
     ensures counts { SinkCountsStay (S.state out.old) (S.state out.new) }
-    ensures answer { PutsAll (S.state out.old) (S.state out.new) (counts_line machine.now.counts ++ all_qpu_lines 0 machine.now.qpus) result }
+    ensures answer { PutsAll (S.state out.old) (S.state out.new)
+        (counts_line machine.now.counts ++ all_qpu_lines 0 machine.now.qpus) result }
 {
     match put_counts(out, machine) {
         Put::Done => put_qpus(out, machine, qpus),
