@@ -1,0 +1,2 @@
+-- Laws of the operations on words.
+use Rattle.std.proofs.Common.{◌≡◌, ℕ, ◌+◌, ◌<◌, refl}

@@ -1,0 +1,17 @@
+//! What a word is, and what an operation on words and on vectors of words gives.
+//!
+//! The machine, the source language and every form between them mean these operations by these definitions.
+#![tactic(auto)]
+
+mod kinds;
+mod lanes;
+mod operations;
+mod words;
+
+pub use kinds::{Kind, Scalar};
+pub use lanes::{Lanes, Mask16};
+pub use operations::{BinOp, UnOp};
+pub use words::{apply, apply_one};
+
+#[cfg(test)]
+mod tests;
