@@ -25,16 +25,16 @@ summed n k m i h =
     let q : m % n < n = mod_below m n h in
     let s : (k + m) % n ≡ (k % n + m % n) % n = add-mod k m n in
     elim (cases_lt (k % n + m % n) n) [
-        inl l ↦
-        let r : (k + m) % n ≡ k % n + m % n = s ∙ mod-eq_of_lt l in
-        let e : i + (n - m % n) + (n - k % n) ≡ (i + (n - (k + m) % n)) + n = omega arith in
-        ap (λ (x : ℕ). x % n) e ∙ add-mod_right (i + (n - (k + m) % n)) n
-        | inr l ↦
-        let t : k % n + m % n ≡ (k % n + m % n - n) + n = omega arith in
-        let b : k % n + m % n - n < n = omega arith in
-        let r : (k + m) % n ≡ k % n + m % n - n = s ∙ ap (λ (x : ℕ). x % n) t ∙ add-mod_right (k % n + m % n - n) n ∙ mod-eq_of_lt b in
-        let e : i + (n - m % n) + (n - k % n) ≡ i + (n - (k + m) % n) = omega arith in
-        ap (λ (x : ℕ). x % n) e
+      | inl l ↦
+          let r : (k + m) % n ≡ k % n + m % n = s ∙ mod-eq_of_lt l in
+          let e : i + (n - m % n) + (n - k % n) ≡ (i + (n - (k + m) % n)) + n = omega arith in
+          ap (λ (x : ℕ). x % n) e ∙ add-mod_right (i + (n - (k + m) % n)) n
+      | inr l ↦
+          let t : k % n + m % n ≡ (k % n + m % n - n) + n = omega arith in
+          let b : k % n + m % n - n < n = omega arith in
+          let r : (k + m) % n ≡ k % n + m % n - n = s ∙ ap (λ (x : ℕ). x % n) t ∙ add-mod_right (k % n + m % n - n) n ∙ mod-eq_of_lt b in
+          let e : i + (n - m % n) + (n - k % n) ≡ i + (n - (k + m) % n) = omega arith in
+          ap (λ (x : ℕ). x % n) e
     ]
 
 -- a rotation by k and then by m is one by k + m
@@ -42,8 +42,8 @@ pub rotated-rotated : (n : ℕ) (xs : List ℕ) (k m : ℕ) → rotated n (rotat
 rotated-rotated n xs k m =
     lanes-same n (λ i. lane (rotated n xs k) ((i + (n - m % n)) % n)) (λ i. lane xs ((i + (n - (k + m) % n)) % n)) 0
     (λ i h.
-        get_or-lanes n (λ (j : ℕ). lane xs ((j + (n - k % n)) % n)) ((i + (n - m % n)) % n) 0 (mod_below (i + (n - m % n)) n (omega arith))
-        ∙ ap (lane xs) (mod-add-mod (i + (n - m % n)) n (n - k % n) ∙ summed n k m i (omega arith)))
+    get_or-lanes n (λ (j : ℕ). lane xs ((j + (n - k % n)) % n)) ((i + (n - m % n)) % n) 0 (mod_below (i + (n - m % n)) n (omega arith))
+    ∙ ap (lane xs) (mod-add-mod (i + (n - m % n)) n (n - k % n) ∙ summed n k m i (omega arith)))
 
 still : (n k i : ℕ) → i < n → k % n ≡ 0 → (i + (n - k % n)) % n ≡ i
 still n k i l z =

@@ -12,7 +12,7 @@ use Rattle.q_lane.specs.declared.operations.BinOp.{BinOp}
 use Rattle.q_lane.specs.declared.operations.BinOp.TheVariants.{Add, Sub, Mul, MulHi, Div, Rem, And, Or, Xor, Shl, Shr, Sar, Min, Max, Less, Equal, Mul24}
 use Rattle.q_lane.specs.declared.operations.UnOp.{UnOp}
 use Rattle.q_lane.specs.declared.operations.UnOp.TheVariants.{Not, Neg, Clz, Popcount, Narrow}
-use Rattle.q_lane.specs.Words.{signed, word_of, halved, high_product, quotient, remainder, is_less, flag, applied, width, extended, narrowed, applied_one}
+use Rattle.q_lane.specs.Words.{signed, word_of, shifted_down, high_product, quotient, remainder, is_less, flag, applied, width, extended, narrowed, applied_one}
 use Rattle.q_lane.specs.Vectors.{lanes, lane, mapped, selected}
 use Rattle.q_lane.proofs.VectorLaws.{get_or-lanes, lanes-same}
 
@@ -108,16 +108,16 @@ is_less-shifted a b h k = grind (arith, nat_tests, ints)
 -- to flip the top bit is to add 2^31
 pub flipped-is : (a : ℕ) → a < 2 ^ 32 → bit_xor a (2 ^ 31) ≡ (a + 2 ^ 31) % 2 ^ 32
 flipped-is a h = elim (cases_lt a (2 ^ 31)) [
-        inl l ↦
-        let e : a ≡ 0 * 2 ^ 31 + a = omega arith in
-        let z : bit_xor a 0 ≡ a = xor_comm a 0 in
-        ap (λ (x : ℕ). bit_xor x (2 ^ 31)) e ∙ xor_block 31 0 1 a 0 l (omega arith) ∙ omega arith
-        | inr l ↦
-        let e : a ≡ 1 * 2 ^ 31 + (a - 2 ^ 31) = omega arith in
-        let b : a - 2 ^ 31 < 2 ^ 31 = omega arith in
-        let z : bit_xor (a - 2 ^ 31) 0 ≡ a - 2 ^ 31 = xor_comm (a - 2 ^ 31) 0 in
-        ap (λ (x : ℕ). bit_xor x (2 ^ 31)) e ∙ xor_block 31 1 1 (a - 2 ^ 31) 0 b (omega arith) ∙ omega arith
-    ]
+  | inl l ↦
+      let e : a ≡ 0 * 2 ^ 31 + a = omega arith in
+      let z : bit_xor a 0 ≡ a = xor_comm a 0 in
+      ap (λ (x : ℕ). bit_xor x (2 ^ 31)) e ∙ xor_block 31 0 1 a 0 l (omega arith) ∙ omega arith
+  | inr l ↦
+      let e : a ≡ 1 * 2 ^ 31 + (a - 2 ^ 31) = omega arith in
+      let b : a - 2 ^ 31 < 2 ^ 31 = omega arith in
+      let z : bit_xor (a - 2 ^ 31) 0 ≡ a - 2 ^ 31 = xor_comm (a - 2 ^ 31) 0 in
+      ap (λ (x : ℕ). bit_xor x (2 ^ 31)) e ∙ xor_block 31 1 1 (a - 2 ^ 31) 0 b (omega arith) ∙ omega arith
+]
 
 -- the lesser is chosen by Less
 pub min_by_less : (s : Bool) (a b : ℕ) → applied (Min s) a b ≡ (if applied (Less s) a b == 0 then b else a)

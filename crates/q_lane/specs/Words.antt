@@ -22,13 +22,13 @@ word_of (pos n) = n % 2 ^ 32
 word_of (negsuc n) = 2 ^ 32 - 1 - n % 2 ^ 32
 
 -- a whole number divided by 2^n, rounding down
-abbrev pub halved : ℤ → ℕ → ℤ
-halved z n = int_div_euclid z (pos (2 ^ n))
+abbrev pub shifted_down : ℤ → ℕ → ℤ
+shifted_down z n = int_div_euclid z (pos (2 ^ n))
 
 -- the high 32 of the 64 bits of the product
 unfoldable pub high_product : Bool → ℕ → ℕ → ℕ
 high_product false a b = a * b / 2 ^ 32
-high_product true a b = word_of (halved (signed a *ℤ signed b) 32)
+high_product true a b = word_of (shifted_down (signed a *ℤ signed b) 32)
 
 -- the quotient rounded toward zero; x / 0 is 0 (this project's own), and -2^31 / -1 is 2^31 mod 2^32, that is -2^31 (its own too)
 unfoldable pub quotient : Bool → ℕ → ℕ → ℕ
@@ -63,7 +63,7 @@ applied Or a b = bit_or a b
 applied Xor a b = bit_xor a b
 applied Shl a b = a * 2 ^ (b % 32) % 2 ^ 32
 applied Shr a b = a / 2 ^ (b % 32)
-applied Sar a b = word_of (halved (signed a) (b % 32))
+applied Sar a b = word_of (shifted_down (signed a) (b % 32))
 applied (Min s) a b = if is_less s a b then a else b
 applied (Max s) a b = if is_less s a b then b else a
 applied (Less s) a b = flag (is_less s a b)

@@ -1,7 +1,7 @@
 //! What an operation on words gives.
 
 ghost use Rattle.std.specs.Prelude.{◌≡◌, ◌<◌, ◌^◌, ◌*ℤ◌, int_div, int_rem};
-ghost use Rattle.q_lane.specs.Words.{applied, applied_one, signed, word_of, halved, high_product, quotient, remainder, is_less, flag, extended, narrowed};
+ghost use Rattle.q_lane.specs.Words.{applied, applied_one, signed, word_of, shifted_down, high_product, quotient, remainder, is_less, flag, extended, narrowed};
 
 use crate::kinds::Scalar;
 use crate::operations::{BinOp, UnOp};
@@ -18,7 +18,7 @@ fn multiply_high(signed: bool, a: u32, b: u32) -> u32
 }
 
 fn multiply_high_signed(a: u32, b: u32) -> u32
-    ensures { result ≡ word_of (halved (signed a *ℤ signed b) 32) }
+    ensures { result ≡ word_of (shifted_down (signed a *ℤ signed b) 32) }
 {
     let product = i64::from(a.cast_signed()) * i64::from(b.cast_signed());
     (product.cast_unsigned() >> 32) as u32
@@ -29,12 +29,9 @@ fn divide(signed: bool, a: u32, b: u32) -> u32
     ensures { result ≡ quotient signed a b }
 {
     if b == 0 {
-        0
-    } else if signed {
-        divide_signed(a, b)
-    } else {
-        a / b
+        return 0;
     }
+    if signed { divide_signed(a, b) } else { a / b }
 }
 
 fn divide_signed(a: u32, b: u32) -> u32
@@ -51,12 +48,9 @@ fn rest(signed: bool, a: u32, b: u32) -> u32
     ensures { result ≡ remainder signed a b }
 {
     if b == 0 {
-        a
-    } else if signed {
-        rest_signed(a, b)
-    } else {
-        a % b
+        return a;
     }
+    if signed { rest_signed(a, b) } else { a % b }
 }
 
 fn rest_signed(a: u32, b: u32) -> u32
@@ -70,13 +64,9 @@ fn rest_signed(a: u32, b: u32) -> u32
 
 fn shift_signed(a: u32, n: u32) -> u32
     requires { n < 32 }
-    ensures { result ≡ word_of (halved (signed a) n) }
+    ensures { result ≡ word_of (shifted_down (signed a) n) }
 {
-    if a < 0x8000_0000 {
-        a >> n
-    } else {
-        !(!a >> n)
-    }
+    if a < 0x8000_0000 { a >> n } else { !(!a >> n) }
 }
 
 #[tactic(auto, unfolding(crate::specs::Words::is_less))]
@@ -101,11 +91,7 @@ fn extend_half(low: u32) -> u32
     requires { low < 2 ^ 16 }
     ensures { result ≡ extended 16 low }
 {
-    if low < 0x8000 {
-        low
-    } else {
-        low + 0xffff_0000
-    }
+    if low < 0x8000 { low } else { low + 0xffff_0000 }
 }
 
 #[tactic(auto, unfolding(crate::specs::Words::narrowed))]
