@@ -1,10 +1,9 @@
 -- Laws of lists that are given element by element, and of what is made of them. No law needs to know the length of a list.
-use Rattle.std.proofs.Common.{◌≡◌, ℕ, ◌+◌, ◌<◌, List, map, length, get_or, Bool, true, false, if◌then◌else◌, ◌==◌, refl, sym, ap, ◌∙◌, arith}
-use Rattle.std.specs.List.{range_with_len}
+use Rattle.std.proofs.Common.{◌≡◌, ℕ, ◌<◌, List, length, get_or, if◌then◌else◌, ◌==◌, refl, ◌∙◌, arith}
 use Rattle.std.proofs.lemmas.List.FromFn.{length-map-range_with_len, get_or-map-range_with_len, fill_by_all}
 use Rattle.q_lane.specs.declared.operations.BinOp.{BinOp}
 use Rattle.q_lane.specs.Words.{applied}
-use Rattle.q_lane.specs.Vectors.{lanes, lane, mapped, selected, rotated}
+use Rattle.q_lane.specs.Vectors.{lanes, lane, mapped, selected}
 
 pub length-lanes : {A : Type 0} (n : ℕ) (f : ℕ → A) → length (lanes n f) ≡ n
 unfolding lanes

@@ -1,6 +1,6 @@
 -- Laws of the operations on words.
-use Rattle.std.proofs.Common.{◌≡◌, ℕ, ◌+◌, ◌-◌, ◌*◌, ◌/◌, ◌%◌, ◌^◌, ◌<◌, ◌≤◌, Bool, true, false, refl, inl, inr, sym, ap, ◌∙◌, arith}
-use Rattle.std.specs.Prelude.{ℤ, pos, negsuc, nat_lt, int_lt, if◌then◌else◌, ◌==◌, bit_and, bit_or, bit_xor, count_ones, ◌-ℤ◌, List}
+use Rattle.std.proofs.Common.{◌≡◌, ℕ, ◌+◌, ◌-◌, ◌*◌, ◌/◌, ◌%◌, ◌^◌, ◌<◌, ◌≤◌, Bool, true, false, refl, inl, inr, ap, ◌∙◌, arith}
+use Rattle.std.specs.Prelude.{ℤ, pos, negsuc, nat_lt, if◌then◌else◌, ◌==◌, bit_xor, ◌-ℤ◌, List}
 use Rattle.std.proofs.Math.Nat.{div-le_self, mod-le}
 use Rattle.std.proofs.lemmas.Nat.{and_le_l, or_lt, xor_lt, xor_comm, xor_block, shr_le, leading_le, ones-le, mul-lt}
 use Rattle.std.proofs.lemmas.Bool.{cases_lt}
@@ -12,8 +12,8 @@ use Rattle.q_lane.specs.declared.operations.BinOp.{BinOp}
 use Rattle.q_lane.specs.declared.operations.BinOp.TheVariants.{Add, Sub, Mul, MulHi, Div, Rem, And, Or, Xor, Shl, Shr, Sar, Min, Max, Less, Equal, Mul24}
 use Rattle.q_lane.specs.declared.operations.UnOp.{UnOp}
 use Rattle.q_lane.specs.declared.operations.UnOp.TheVariants.{Not, Neg, Clz, Popcount, Narrow}
-use Rattle.q_lane.specs.Words.{signed, word_of, shifted_down, high_product, quotient, remainder, is_less, flag, applied, width, extended, narrowed, applied_one}
-use Rattle.q_lane.specs.Vectors.{lanes, lane, mapped, selected}
+use Rattle.q_lane.specs.Words.{signed, word_of, high_product, quotient, remainder, is_less, flag, applied, width, extended, narrowed, applied_one}
+use Rattle.q_lane.specs.Vectors.{lane, mapped, selected}
 use Rattle.q_lane.proofs.VectorLaws.{get_or-lanes, lanes-same}
 
 -- ---- words stay words
@@ -118,6 +118,11 @@ flipped-is a h = elim (cases_lt a (2 ^ 31)) [
       let z : bit_xor (a - 2 ^ 31) 0 ≡ a - 2 ^ 31 = xor_comm (a - 2 ^ 31) 0 in
       ap (λ (x : ℕ). bit_xor x (2 ^ 31)) e ∙ xor_block 31 1 1 (a - 2 ^ 31) 0 b (omega arith) ∙ omega arith
 ]
+
+-- signed less is unsigned less of both words with their top bits flipped
+pub less_by_flips : (a b : ℕ) → a < 2 ^ 32 → b < 2 ^ 32 → applied (Less true) a b ≡ applied (Less false) (applied Xor a (2 ^ 31)) (applied Xor b (2 ^ 31))
+unfolding applied
+less_by_flips a b h k = rw (flipped-is a h, flipped-is b k) (ap flag (is_less-shifted a b h k))
 
 -- the lesser is chosen by Less
 pub min_by_less : (s : Bool) (a b : ℕ) → applied (Min s) a b ≡ (if applied (Less s) a b == 0 then b else a)

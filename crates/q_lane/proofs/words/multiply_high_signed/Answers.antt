@@ -1,4 +1,4 @@
-use Rattle.std.proofs.Common.{rules, arith, ap, ◌∙◌, ◌≡◌, ◌+◌, ◌/◌, ◌^◌, w32, w64, ℤ, ℕ, pos, negsuc, ◌≤◌, ◌<◌, lit<, refl}
+use Rattle.std.proofs.Common.{rules, arith, ap, ◌∙◌, ◌≡◌, ◌/◌, ◌^◌, w32, w64, ℤ, ℕ, pos, negsuc, ◌≤◌, ◌<◌, lit<, refl}
 use Rattle.std.specs.Prelude.{◌*ℤ◌, nat_abs}
 use mir.Val.{of_z, to_z, SFits}
 use lib.Signed.{mag}

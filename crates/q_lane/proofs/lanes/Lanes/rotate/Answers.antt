@@ -1,5 +1,4 @@
-use Rattle.std.proofs.Common.{arith, ap, sym, ℕ, ◌≡◌, ◌+◌, ◌-◌, ◌%◌, ◌∙◌, w64}
-use Rattle.std.specs.Prelude.{List}
+use Rattle.std.proofs.Common.{arith, ap, ℕ, ◌≡◌, ◌+◌, ◌-◌, ◌%◌, ◌∙◌}
 use Rattle.q_lane.specs.Vectors.{lane, rotated}
 use Rattle.q_lane.proofs.VectorLaws.{lanes-is}
 use Rattle.q_lane.proofs.Rotations.{rotated-moves}
