@@ -1,7 +1,8 @@
 -- What each operation on words gives. A word is a number from 0 to 2^32 - 1.
--- The public sources are OpenCL C 1.2, sections 6.1 (types) and 6.3 (operators), and, for the operations that the processor has itself
--- (add, sub, min, max, and, or, xor, not, shl, shr, asr, clz, mul24), Broadcom, VideoCore IV 3D Architecture Reference Guide, QPU chapter.
--- Where OpenCL C leaves a result open, as for x / 0, the rule is this project's own, and is marked so.
+-- The public sources are OpenCL C 1.2, sections 6.1 (types), 6.2 (conversions), 6.3 (operators) and 6.12.3 (integer functions), and, for
+-- what the processor does itself (add, sub, min, max, and, or, xor, not, shl, shr, asr, clz, mul24), Broadcom, VideoCore IV 3D Architecture
+-- Reference Guide, QPU chapter. Where OpenCL C leaves a value open, as for x / 0, the rule is this project's own and says so.
+-- Where an operation has a Bool, true reads both words as signed.
 use Rattle.std.specs.Prelude.{ℕ, ◌+◌, ◌-◌, ◌*◌, ◌/◌, ◌%◌, ◌^◌, Bool, true, false, if◌then◌else◌, nat_lt, ◌==◌, bit_and, bit_or, bit_xor, count_ones, ℤ, pos, negsuc, ◌*ℤ◌, int_lt, int_div, int_rem}
 use Rattle.std.specs.Int.{cast_signed, w32, int_div_euclid}
 use Rattle.std.specs.Int.Count.{count_leading_zeros}
@@ -30,7 +31,7 @@ unfoldable pub high_product : Bool → ℕ → ℕ → ℕ
 high_product false a b = a * b / 2 ^ 32
 high_product true a b = word_of (shifted_down (signed a *ℤ signed b) 32)
 
--- the quotient rounded toward zero; x / 0 is 0 (this project's own), and -2^31 / -1 is 2^31 mod 2^32, that is -2^31 (its own too)
+-- the quotient rounded toward zero; x / 0 is 0, and -2^31 / -1 is the word of 2^31, which stands for -2^31 (both this project's own)
 unfoldable pub quotient : Bool → ℕ → ℕ → ℕ
 quotient false a b = if b == 0 then 0 else a / b
 quotient true a b = if b == 0 then 0 else word_of (int_div (signed a) (signed b))

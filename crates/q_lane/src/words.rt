@@ -1,7 +1,7 @@
 //! What an operation on words gives.
 
 ghost use Rattle.std.specs.Prelude.{◌≡◌, ◌<◌, ◌^◌, ◌*ℤ◌, int_div, int_rem};
-ghost use Rattle.q_lane.specs.Words.{applied, applied_one, signed, word_of, shifted_down, high_product, quotient, remainder, is_less, flag, extended, narrowed};
+ghost use Rattle.q_lane.specs.Words.{applied, applied_one, signed, word_of, shifted_down, high_product, quotient, remainder, is_less, extended, narrowed};
 
 use crate::kinds::Scalar;
 use crate::operations::{BinOp, UnOp};
