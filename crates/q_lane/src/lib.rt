@@ -11,7 +11,7 @@ mod words;
 
 pub use kinds::{Kind, Scalar};
 pub use lanes::{Lanes, Mask16};
-pub use laws::{law_choice, law_narrow, law_order, law_rotations, law_words};
+pub use laws::{law_choice, law_length, law_narrow, law_order, law_rotations, law_words};
 pub use operations::{BinOp, UnOp};
 pub use words::{apply, apply_one};
 
