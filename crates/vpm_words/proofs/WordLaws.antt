@@ -1,8 +1,8 @@
 -- Setups and their words undo each other.
-use Rattle.std.proofs.Common.{arith, ◌≡◌, ◌≢◌, ℕ, zero, suc, ◌+◌, ◌*◌, ◌/◌, ◌%◌, ◌^◌, ◌<◌, ◌≤◌, true, false, Bool, refl, ap, sym, ◌∙◌, eq-eqb}
-use Rattle.std.proofs.lemmas.Bool.{eqb-true, and_parts}
+use Rattle.std.proofs.Common.{arith, ◌≡◌, ◌≢◌, ℕ, ◌+◌, ◌*◌, ◌/◌, ◌%◌, ◌^◌, ◌<◌, ◌≤◌, true, false, Bool, refl, ap, ◌∙◌, eq-eqb}
+use Rattle.std.proofs.lemmas.Bool.{eqb-true}
 use Rattle.std.proofs.lemmas.Bool.Decides.{nat_tests}
-use Rattle.std.specs.Prelude.{Option, Some, None, IfSome, IfNone, ◌==◌, ◌&&◌, if◌then◌else◌, nat_lt}
+use Rattle.std.specs.Prelude.{Option, Some, None, IfSome, IfNone, ◌==◌, ◌&&◌, if◌then◌else◌}
 use Rattle.vpm_words.specs.Piece.{Piece, IsTransfer, is_transfer}
 use Rattle.vpm_words.specs.declared.setup.ReadSetup.{ReadSetup}
 use Rattle.vpm_words.specs.declared.setup.ReadSetup.TheVariants.{Rows, Load}

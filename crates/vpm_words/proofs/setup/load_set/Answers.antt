@@ -1,4 +1,4 @@
-use Rattle.std.proofs.Common.{rules, arith, ◌∙◌, ap}
+use Rattle.std.proofs.Common.{arith, ◌∙◌, ap}
 use Rattle.vpm_words.specs.Words.{load_word, read_setup_of}
 use Rattle.vpm_words.proofs.WordLaws.{load_bounds, load_read}
 use Rattle.vpm_words.proofs.setup.load_set.Goals as goal
