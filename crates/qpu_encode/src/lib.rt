@@ -1,6 +1,4 @@
 //! Instruction words of the QPU and their typed form.
-//!
-//! Today two words are in the profile: a plain nop and a program end without operations.
 #![tactic(auto)]
 
 mod codes;
@@ -11,7 +9,7 @@ mod profile;
 mod words;
 
 pub use field::Field;
-pub use form::{AddOp, AddPart, Cond, Form, Head, MulOp, MulPart};
+pub use form::{AddOp, AddPart, BraCond, Cond, Form, Head, MulOp, MulPart};
 pub use instr::Instr;
 pub use words::{decode, encode};
 
