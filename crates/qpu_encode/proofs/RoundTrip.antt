@@ -1,8 +1,8 @@
 -- A form is its word.
-use Rattle.std.specs.Prelude.{◌≢◌, IfSome, IfNone, ◌≡◌, ℕ, ◌/◌, ◌<◌, ◌≤◌, ◌^◌, List, [], ◌∷◌, Bool, true, false, not, cond, ◌&&◌, ◌||◌, ◌==◌, nat_le, nat_lt, nat_eq, if◌then◌else◌, refl}
+use Rattle.std.specs.Prelude.{◌≢◌, IfSome, IfNone, ◌≡◌, ℕ, ◌/◌, ◌<◌, ◌≤◌, ◌^◌, List, [], ◌∷◌, Bool, true, false, not, cond, ◌&&◌, ◌==◌, nat_lt, nat_eq, if◌then◌else◌, refl}
 use Rattle.std.specs.declared.option.Option.{Option}
 use Rattle.std.specs.declared.option.Option.TheVariants.{Some, None}
-use Rattle.std.proofs.Common.{arith, sym, ap, subst, ◌∙◌, lit<, get_or, add-one}
+use Rattle.std.proofs.Common.{arith, sym, ap, ◌∙◌, lit<, get_or, add-one}
 use Rattle.std.proofs.lemmas.Bool.Decides.{nat_tests}
 use Rattle.qpu_encode.specs.declared.form.AddOp.{AddOp}
 use Rattle.qpu_encode.specs.declared.form.AddOp.TheVariants as add_op
@@ -24,7 +24,7 @@ use Rattle.qpu_encode.specs.Codes.{with_code, add_code, mul_code, cond_code, hea
 use Rattle.qpu_encode.specs.declared.form.BraCond.TheVariants as bra
 use Rattle.qpu_encode.specs.Fields.{FitEach, field, join, fields_from}
 use Rattle.qpu_encode.proofs.Laws.{fields_of_join, join_of_fields}
-use Rattle.qpu_encode.specs.Forms.{bit, alu_widths, ldi_widths, alu_values, ldi_values, word_of, form_of, alu_from, ldi_from, ◌>>=◌, kept, is_in_profile, is_target, is_source, is_part, is_small, is_unpack, is_flagged, is_selector, is_port, is_acc, bra_widths, bra_values, bra_from, distance_bits, distance_of, is_distance, by_signal}
+use Rattle.qpu_encode.specs.Forms.{bit, alu_widths, ldi_widths, alu_values, ldi_values, word_of, form_of, alu_from, ldi_from, ◌>>=◌, kept, is_in_profile, is_target, is_source, is_part, is_small, is_unpack, bra_widths, bra_values, bra_from, distance_bits, distance_of, is_distance, by_signal}
 
 -- ---- tables
 

@@ -237,12 +237,13 @@ fn bit_of(b: bool) -> u64
     u64::from(b)
 }
 
-// The word of an instruction, by its fields.
+// The word of a form, by its fields.
 #[tactic(auto, unfolding(crate::specs::Forms::word_of))]
-fn encode_fields(instr: &Instr) -> u64
-    ensures { result ≡ word_of instr.now }
+fn encode_fields(form: &Form) -> u64
+    requires { is_in_profile form.now ≡ true }
+    ensures { result ≡ word_of form.now }
 {
-    match instr.form {
+    match *form {
         Form::Alu {
             head,
             unpack,
@@ -272,5 +273,5 @@ pub fn encode(instr: &Instr) -> u64
     // Decoding gives the instruction again.
     ensures again { form_of result ≡ Some instr.now }
 {
-    encode_fields(instr)
+    encode_fields(&instr.form)
 }

@@ -1,4 +1,4 @@
-use Rattle.std.proofs.Common.{rules, arith, ◌≡◌, ◌≤◌, ◌^◌, ◌∙◌, ap, w32}
+use Rattle.std.proofs.Common.{arith, ◌∙◌, ap, w32}
 use Rattle.std.specs.Prelude.{nat_abs}
 use Rattle.std.proofs.lemmas.Int.{to_z-of_z}
 use Rattle.qpu_encode.proofs.RoundTrip.{distance_size}
