@@ -40,15 +40,15 @@ add_value add_op.MulHu a b = applied (word_op.MulHi false) a b
 abbrev pub byte : ℕ → ℕ → ℕ
 byte k a = a / 2 ^ (8 * k) % 2 ^ 8
 
--- the lesser of bytes k of two words, at its place in a word
+-- the lesser of bytes k of two words
 abbrev pub lesser_byte : ℕ → ℕ → ℕ → ℕ
-lesser_byte k a b = min (byte k a) (byte k b) * 2 ^ (8 * k)
+lesser_byte k a b = min (byte k a) (byte k b)
 
 -- what the mul unit gives of two words
 unfoldable pub mul_value : MulOp → ℕ → ℕ → ℕ
 mul_value mul_op.Nop a b = 0
 mul_value mul_op.Mul24 a b = applied word_op.Mul24 a b
-mul_value mul_op.V8Min a b = lesser_byte 3 a b + lesser_byte 2 a b + lesser_byte 1 a b + lesser_byte 0 a b
+mul_value mul_op.V8Min a b = lesser_byte 0 a b + 2 ^ 8 * lesser_byte 1 a b + 2 ^ 16 * lesser_byte 2 a b + 2 ^ 24 * lesser_byte 3 a b
 
 -- an element whose flags Z and N are these meets the condition
 unfoldable pub passes : Cond → Bool → Bool → Bool

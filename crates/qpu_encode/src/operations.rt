@@ -51,9 +51,9 @@ fn byte_at(k: u32, a: u32) -> u32
 fn lesser(k: u32, a: u32, b: u32) -> u32
     requires { k < 4 }
     ensures is { result ≡ lesser_byte k a b }
-    ensures fits { result < 2 ^ 8 * 2 ^ (8 * k) }
+    ensures fits { result < 2 ^ 8 }
 {
-    byte_at(k, a).min(byte_at(k, b)) << (8 * k)
+    byte_at(k, a).min(byte_at(k, b))
 }
 
 /// What the mul unit gives of two words.
@@ -64,7 +64,12 @@ pub fn mul_value(op: MulOp, a: u32, b: u32) -> u32
     match op {
         MulOp::Nop => 0,
         MulOp::Mul24 => apply(BinOp::Mul24, a, b),
-        MulOp::V8Min => lesser(3, a, b) + lesser(2, a, b) + lesser(1, a, b) + lesser(0, a, b),
+        MulOp::V8Min => {
+            lesser(0, a, b)
+                + 0x100 * lesser(1, a, b)
+                + 0x1_0000 * lesser(2, a, b)
+                + 0x100_0000 * lesser(3, a, b)
+        }
     }
 }
 
