@@ -1,4 +1,3 @@
-pub mod Alu
 pub mod Laws
 pub mod Replace
 pub mod RoundTrip

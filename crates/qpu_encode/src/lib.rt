@@ -1,18 +1,18 @@
 //! Instruction words of the QPU and their typed form.
-//!
-//! Today two words are in the profile: a plain nop and a program end without operations.
 #![tactic(auto)]
 
 mod codes;
 mod field;
 mod form;
 mod instr;
+mod operations;
 mod profile;
 mod words;
 
 pub use field::Field;
-pub use form::{AddOp, AddPart, Cond, Form, Head, MulOp, MulPart};
+pub use form::{AddOp, AddPart, BraCond, Cond, Form, Head, MulOp, MulPart};
 pub use instr::Instr;
+pub use operations::{add_value, mul_value, passes, rotation, small_word, unpacked};
 pub use words::{decode, encode};
 
 #[cfg(test)]

@@ -1,7 +1,7 @@
 -- The opening state of a machine.
 use Rattle.std.specs.Prelude.{ℕ, List, replicate, map, false}
 use Rattle.std.specs.declared.option.Option.TheVariants.{None}
-use Rattle.qpu_machine.specs.declared.lanes.Lanes.{Lanes}
+use Rattle.q_lane.specs.declared.lanes.Lanes.{Lanes}
 use Rattle.qpu_machine.specs.declared.state.Qpu.{Qpu}
 use Rattle.qpu_machine.specs.declared.state.Regs.{Regs}
 use Rattle.qpu_machine.specs.declared.state.Counts.{Counts}

@@ -1,10 +1,40 @@
 //! One issue of one QPU.
 
 ghost use Rattle.std.specs.Prelude.{◌≡◌, Some};
-ghost use Rattle.qpu_machine.specs.Issue.{fetched, is_end, least_broken, flow_after, done, local};
+ghost use Rattle.qpu_machine.specs.Issue.{is_resting, is_taken, fetched, is_end, least_broken, flow_after, done, local};
 
 use crate::state::{Counts, Effect, Flow, Qpu, Rule};
 use qpu_encode::{Form, Head, decode};
+
+fn rests(op: u8, cond: u8, dst: u8, a: u8, b: u8) -> bool
+    ensures { result ≡ is_resting op cond dst a b }
+{
+    (op == 0 && cond == 0) && (dst == 39 && (a == 0 && b == 0))
+}
+
+#[tactic(auto, unfolding(crate::specs::Issue::is_taken))]
+fn takes(form: &Form) -> bool
+    ensures { result ≡ is_taken form.now }
+{
+    match *form {
+        Form::Alu {
+            head,
+            unpack,
+            add,
+            mul,
+            flags,
+            swap,
+            ra,
+            rb,
+        } => {
+            (rests(add.op as u8, add.cond as u8, add.dst, add.a, add.b)
+                && rests(mul.op as u8, mul.cond as u8, mul.dst, mul.a, mul.b))
+                && ((unpack == 0 && (!flags && !swap))
+                    && ((ra == 39 && rb == 39) && !(head as u8 == 13)))
+        }
+        Form::Ldi { .. } | Form::Bra { .. } => false,
+    }
+}
 
 #[tactic(auto, unfolding(crate::specs::Issue::fetched))]
 fn fetch(code: &[u64], place: u32) -> Option<Form>
@@ -14,7 +44,10 @@ fn fetch(code: &[u64], place: u32) -> Option<Form>
         None => None,
         Some(word) => match decode(*word) {
             None => None,
-            Some(instr) => Some(instr.form),
+            Some(instr) => {
+                let form = instr.form;
+                if takes(&form) { Some(form) } else { None }
+            }
         },
     }
 }

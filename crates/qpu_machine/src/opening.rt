@@ -3,9 +3,9 @@
 ghost use Rattle.std.specs.Prelude.{◌≡◌, IfOk, map, replicate};
 ghost use Rattle.qpu_machine.specs.Opening.{zero_regs, opening_qpu, regs_of};
 
-use crate::lanes::Lanes;
 use crate::plan::Fill;
 use crate::state::{Flow, Qpu, Regs};
+use q_lane::Lanes;
 use std::alloc::{AllocError, Global};
 
 #[tactic(auto, unfolding(crate::specs::Opening::zero_regs))]

@@ -1,6 +1,6 @@
 //! The state of the machine, and what its steps answer.
 
-use crate::lanes::Lanes;
+use q_lane::Lanes;
 
 /// The restrictions on words.
 #[derive(Clone, Copy, Debug, PartialEq, Eq)]

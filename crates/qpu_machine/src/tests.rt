@@ -8,6 +8,18 @@ const NOP: u64 = 0x1000_09E7_009E_7000;
 
 const END: u64 = 0x3000_09E7_009E_7000;
 
+// Words of the profile that the machine doesn't take: a load immediate, a branch, an addition, and a
+// nop with the units' files changed about and with a small immediate.
+const LOAD: u64 = 0xE002_0827_0000_0005;
+
+const BRANCH: u64 = 0xF0F8_09E7_FFFF_FFF8;
+
+const ADD: u64 = 0xD002_0827_0C9C_11C0;
+
+const SWAPPED: u64 = 0x1000_19E7_009E_7000;
+
+const SMALL: u64 = 0xD000_09E7_009C_0000;
+
 // So many QPUs at the start of this code, with no memory.
 #[tactic(auto, unfolding(crate::specs::Opening::opening))]
 fn begin(alloc: Global, code: &[u64], qpus: u32) -> Result<Machine, AllocError>
@@ -122,6 +134,11 @@ fn broken_words(rt: HostRuntime) -> Result<(), Fail> {
     for (code, done) in [
         ([NOP].as_slice(), 1),
         ([0, END, NOP, NOP].as_slice(), 0),
+        ([NOP, LOAD].as_slice(), 1),
+        ([BRANCH].as_slice(), 0),
+        ([ADD].as_slice(), 0),
+        ([SWAPPED].as_slice(), 0),
+        ([SMALL].as_slice(), 0),
         ([NOP, END, END, NOP].as_slice(), 2),
         ([END, NOP, END].as_slice(), 2),
         ([NOP, END, NOP].as_slice(), 3),

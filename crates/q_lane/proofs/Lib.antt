@@ -1,0 +1,3 @@
+pub mod VectorLaws
+pub mod Rotations
+pub mod WordLaws

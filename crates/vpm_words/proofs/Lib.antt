@@ -1,0 +1,4 @@
+pub mod PieceLaws
+pub mod WordLaws
+pub mod RuleLaws
+pub mod MoveLaws

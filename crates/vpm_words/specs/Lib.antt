@@ -1,0 +1,7 @@
+pub mod Piece
+pub mod Words
+pub mod Elements
+pub mod Moves
+pub mod Rules
+pub mod Access
+pub mod Laws

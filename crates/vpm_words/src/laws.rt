@@ -1,0 +1,21 @@
+//! Laws of the definitions. Each is a call that does nothing, and its contract is the law.
+
+ghost use Rattle.vpm_words.specs.Laws.{SplitAgrees, LeastIsLeast, ElementsApart, PartReplaced, BytesPut, MovedAgain};
+
+/// An access split into its demand on what is shared breaks the least of the rules that it breaks, each of them tested by itself.
+pub fn law_rules()
+    ensures split { SplitAgrees }
+    ensures least { LeastIsLeast }
+{}
+
+/// The elements of a transfer lie in the VPM and in its bytes, and are pairwise apart.
+pub fn law_elements()
+    ensures { ElementsApart }
+{}
+
+/// Moving a part of a word changes that part alone, and what was moved out and in again is what it was.
+pub fn law_moves()
+    ensures part { PartReplaced }
+    ensures bytes { BytesPut }
+    ensures again { MovedAgain }
+{}

@@ -1,0 +1,19 @@
+//! Setup words of the VPM and of its two DMA engines, both ways, and what a peripheral access means.
+#![tactic(auto)]
+
+mod laws;
+mod queue;
+mod setup;
+mod state;
+mod transfer;
+
+pub use laws::{law_elements, law_moves, law_rules};
+pub use queue::Queue;
+pub use setup::{
+    ReadSetup, WriteSetup, load_set, parse_read, parse_write, read_set, store_set, write_set,
+};
+pub use state::{Access, Element, Owner, Ports, Region, Rule, Seen, Shared};
+pub use transfer::Transfer;
+
+#[cfg(test)]
+mod tests;
