@@ -3,7 +3,7 @@ use Rattle.std.proofs.Common.{arith, ◌≡◌, ℕ, zero, suc, ◌+◌, ◌*◌
 use Rattle.std.proofs.lemmas.Bool.{and_parts, cases_eq, cases_lt}
 use Rattle.std.proofs.lemmas.Bool.Decides.{nat_tests}
 use Rattle.std.proofs.lemmas.Nat.{mod-pow-add, pow_pos, pow-add, mod_below}
-use Rattle.std.proofs.lemmas.List.{length-set, get_or-set_same, get_or-set_other, set_past}
+use Rattle.std.proofs.lemmas.List.{length-set, get_or-set_same, get_or-set_other, get_or_past, set-get_or, set_past}
 use Rattle.std.proofs.lemmas.List.FromFn.{length-map-range_with_len, get_or-map-range_with_len}
 use Rattle.std.specs.Prelude.{nat_le, nat_lt, ◌&&◌, Option, Some, None, get_or, slice_set}
 use Rattle.vpm_words.specs.Piece.{Piece, IsTransfer, is_mode}
@@ -170,6 +170,20 @@ elements_apart address t h = (
   λ i l. rw (element_is address t i l) (lies address t h i l),
   λ i j l m. rw (element_is address t i (omega (arith, l, m)), element_is address t j m) (before address t h i j l),
 )
+
+-- ---- past the end of a row or of the VPM nothing is read and nothing changes
+
+pub cell-past : (vpm : List (List ℕ)) (row col : ℕ) → (row < length vpm → length (get_or vpm row []) ≤ col) → cell vpm row col ≡ 0
+cell-past vpm row col h = elim (cases_lt row (length vpm)) [
+  | inl l ↦ get_or_past (get_or vpm row []) col 0 (h l)
+  | inr g ↦ ap (λ xs. get_or xs col 0) (get_or_past vpm row [] g)
+]
+
+pub with_cell-past : (vpm : List (List ℕ)) (row col word : ℕ) → (row < length vpm → length (get_or vpm row []) ≤ col) → with_cell vpm row col word ≡ vpm
+with_cell-past vpm row col word h = elim (cases_lt row (length vpm)) [
+  | inl l ↦ ap (λ xs. slice_set vpm row xs) (set_past (get_or vpm row []) col word (h l)) ∙ set-get_or vpm row []
+  | inr g ↦ set_past vpm row (slice_set (get_or vpm row []) col word) g
+]
 
 -- ---- a VPM stays one
 
