@@ -4,7 +4,7 @@ use Rattle.std.specs.declared.option.Option.{Option}
 use Rattle.std.specs.declared.option.Option.TheVariants.{Some, None}
 use Rattle.std.proofs.Common.{inl, inr}
 use Rattle.qpu_encode.specs.declared.form.Form.{Form}
-use Rattle.qpu_machine.specs.declared.state.Rule.TheVariants.{H0}
+use Rattle.vpm_words.specs.declared.state.Rule.TheVariants.{H0}
 use Rattle.qpu_machine.specs.declared.state.Effect.TheVariants as effect
 use Rattle.qpu_machine.specs.declared.state.Stop.TheVariants as stop
 use Rattle.qpu_machine.specs.declared.state.Step.{Step}

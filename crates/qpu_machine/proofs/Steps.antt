@@ -7,7 +7,7 @@ use Rattle.std.proofs.lemmas.List.{set-get_or, length-set}
 use Rattle.std.proofs.lemmas.Option.{get_or_from_slice_get, slice_get_within}
 use Rattle.std.proofs.lemmas.List.Folds.{list_all_at}
 use Rattle.qpu_encode.specs.declared.form.Form.{Form}
-use Rattle.qpu_machine.specs.declared.state.Rule.{Rule}
+use Rattle.vpm_words.specs.declared.state.Rule.{Rule}
 use Rattle.qpu_machine.specs.declared.state.Effect.{Effect}
 use Rattle.qpu_machine.specs.declared.state.Effect.TheVariants as effect
 use Rattle.qpu_machine.specs.declared.state.Stop.TheVariants as stop

@@ -1,6 +1,6 @@
 -- What a machine is begun with, and what of it a run never changes. The memory is one list of bytes, and code and uniforms lie outside it.
 use Rattle.std.specs.Prelude.{◌≡◌, ℕ, List, ◌++◌, ◌+◌, ◌*◌, ◌^◌, ◌<◌, ◌≤◌, length, slice_get, slice_range, IfSome}
-use Rattle.qpu_machine.specs.declared.plan.Region.{Region}
+use Rattle.vpm_words.specs.declared.state.Region.{Region}
 
 -- a plan
 pub record Planned : Type 0 where

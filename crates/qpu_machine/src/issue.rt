@@ -3,8 +3,9 @@
 ghost use Rattle.std.specs.Prelude.{◌≡◌, Some};
 ghost use Rattle.qpu_machine.specs.Issue.{is_resting, is_taken, fetched, is_end, least_broken, flow_after, done, local};
 
-use crate::state::{Counts, Effect, Flow, Qpu, Rule};
+use crate::state::{Counts, Effect, Flow, Qpu};
 use qpu_encode::{Form, Head, decode};
+use vpm_words::Rule;
 
 fn rests(op: u8, cond: u8, dst: u8, a: u8, b: u8) -> bool
     ensures { result ≡ is_resting op cond dst a b }

@@ -12,9 +12,10 @@ mod plan;
 mod state;
 
 pub use machine::Machine;
-pub use plan::{Fill, Plan, Region};
+pub use plan::{Fill, Plan};
 pub use q_lane::Lanes;
-pub use state::{Counts, Effect, QpuView, Rule, Step, Stop};
+pub use state::{Counts, Effect, QpuView, Step, Stop};
+pub use vpm_words::{Region, Rule};
 
 #[cfg(test)]
 mod tests;

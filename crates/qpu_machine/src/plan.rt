@@ -1,13 +1,7 @@
 //! What a machine is begun with.
 
 use std::marker::Model;
-
-/// Where bytes lie in the memory.
-#[derive(Clone, Copy, Debug, PartialEq, Eq)]
-pub struct Region {
-    pub start: u32,
-    pub len: u32,
-}
+use vpm_words::Region;
 
 /// The code, the number of QPUs, `per` uniforms for each QPU in turn, the memory, and the regions
 /// in it.

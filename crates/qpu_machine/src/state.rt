@@ -1,12 +1,7 @@
 //! The state of the machine, and what its steps answer.
 
 use q_lane::Lanes;
-
-/// The restrictions on words.
-#[derive(Clone, Copy, Debug, PartialEq, Eq)]
-pub enum Rule {
-    H0,
-}
+use vpm_words::Rule;
 
 /// One step of the system: an issue of a QPU by its number, or a move of an engine's element by
 /// its number among those left.

@@ -3,7 +3,7 @@ use Rattle.std.specs.Prelude.{Result, Ok, Err, IfOk, ◌≡◌, ℕ, zero, suc, 
 use Rattle.std.proofs.Common.{arith, ap, lit<}
 use Rattle.std.proofs.lemmas.List.{length-replicate}
 use Rattle.qpu_machine.specs.Planned.{Planned, IsPlan, LieIn, AreApart}
-use Rattle.qpu_machine.specs.declared.plan.Region.{Region}
+use Rattle.vpm_words.specs.declared.state.Region.{Region}
 use Rattle.vc4c_core.specs.ModuleBytes.{IsCode}
 use Rattle.qpu_machine.specs.Opening.{opening, regs_of}
 use Rattle.qpu_machine.specs.declared.plan.Fill.TheVariants.{Zero}

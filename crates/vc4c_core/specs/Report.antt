@@ -2,8 +2,8 @@
 use Rattle.std.specs.Prelude.{ℕ, ◌+◌, Bool, true, false, List, [], ◌∷◌, ◌++◌, codes, decimal, flat_map}
 use Rattle.std.specs.Int.{to_be_bytes, w32}
 use Rattle.hex.specs.Hex.{encode_lower}
-use Rattle.qpu_machine.specs.declared.state.Rule.{Rule}
-use Rattle.qpu_machine.specs.declared.state.Rule.TheVariants.{H0}
+use Rattle.vpm_words.specs.declared.state.Rule.{Rule}
+use Rattle.vpm_words.specs.declared.state.Rule.TheVariants.{H0, H1, H2, H3, H4, H5, H6, H7, H8, H9, H10, H11, H12, H13, H14, H15, H16}
 use Rattle.qpu_machine.specs.declared.state.Stop.{Stop}
 use Rattle.qpu_machine.specs.declared.state.Stop.TheVariants.{Going, Finished, Broken}
 use Rattle.qpu_machine.specs.declared.state.Counts.{Counts}
@@ -16,6 +16,22 @@ line_end = 10 ∷ []
 
 abbrev pub rule_text : Rule → List ℕ
 rule_text H0 = codes "H0"
+rule_text H1 = codes "H1"
+rule_text H2 = codes "H2"
+rule_text H3 = codes "H3"
+rule_text H4 = codes "H4"
+rule_text H5 = codes "H5"
+rule_text H6 = codes "H6"
+rule_text H7 = codes "H7"
+rule_text H8 = codes "H8"
+rule_text H9 = codes "H9"
+rule_text H10 = codes "H10"
+rule_text H11 = codes "H11"
+rule_text H12 = codes "H12"
+rule_text H13 = codes "H13"
+rule_text H14 = codes "H14"
+rule_text H15 = codes "H15"
+rule_text H16 = codes "H16"
 
 unfoldable pub stop_line : Stop → List ℕ
 stop_line Going = codes "stop unfinished\n"

@@ -15,6 +15,22 @@ fn text_of_rule(rule: Rule) -> &'static [u8]
 {
     match rule {
         Rule::H0 => b"H0",
+        Rule::H1 => b"H1",
+        Rule::H2 => b"H2",
+        Rule::H3 => b"H3",
+        Rule::H4 => b"H4",
+        Rule::H5 => b"H5",
+        Rule::H6 => b"H6",
+        Rule::H7 => b"H7",
+        Rule::H8 => b"H8",
+        Rule::H9 => b"H9",
+        Rule::H10 => b"H10",
+        Rule::H11 => b"H11",
+        Rule::H12 => b"H12",
+        Rule::H13 => b"H13",
+        Rule::H14 => b"H14",
+        Rule::H15 => b"H15",
+        Rule::H16 => b"H16",
     }
 }
 
