@@ -2,3 +2,4 @@ pub mod PieceLaws
 pub mod WordLaws
 pub mod RuleLaws
 pub mod MoveLaws
+pub mod CaseLaws

@@ -1,15 +1,16 @@
 -- Elements of a transfer, and moving one.
-use Rattle.std.proofs.Common.{arith, ◌≡◌, ℕ, zero, suc, ◌+◌, ◌*◌, ◌/◌, ◌%◌, ◌^◌, ◌<◌, ◌≤◌, true, List, [], ◌∷◌, length, refl, ap, ◌∙◌}
-use Rattle.std.proofs.lemmas.Bool.{and_parts}
+use Rattle.std.proofs.Common.{arith, ◌≡◌, ℕ, zero, suc, ◌+◌, ◌*◌, ◌/◌, ◌%◌, ◌^◌, ◌<◌, ◌≤◌, true, List, [], ◌∷◌, length, refl, ap, ◌∙◌, sym, subst, inl, inr}
+use Rattle.std.proofs.lemmas.Bool.{and_parts, cases_eq, cases_lt}
 use Rattle.std.proofs.lemmas.Bool.Decides.{nat_tests}
-use Rattle.std.proofs.lemmas.Nat.{mod-pow-add, pow_pos, mod_below}
-use Rattle.std.proofs.lemmas.List.{length-set, get_or-set_same, get_or-set_other}
+use Rattle.std.proofs.lemmas.Nat.{mod-pow-add, pow_pos, pow-add, mod_below}
+use Rattle.std.proofs.lemmas.List.{length-set, get_or-set_same, get_or-set_other, set_past}
 use Rattle.std.proofs.lemmas.List.FromFn.{length-map-range_with_len, get_or-map-range_with_len}
-use Rattle.std.specs.Prelude.{nat_le, nat_lt, ◌&&◌, get_or, slice_set}
+use Rattle.std.specs.Prelude.{nat_le, nat_lt, ◌&&◌, Option, Some, None, get_or, slice_set}
 use Rattle.vpm_words.specs.Piece.{Piece, IsTransfer, is_mode}
 use Rattle.vpm_words.specs.Elements.{size_of, low_of, element_at, elements_of}
 use Rattle.vpm_words.specs.Moves.{part_of, with_part, number_at, bytes_of, put_bytes, cell, with_cell, load_element, store_element, bytes_out}
-use Rattle.vpm_words.specs.Laws.{IsBefore, LiesIn, IsReplaced, no_element}
+use Rattle.vpm_words.specs.Access.{put_row}
+use Rattle.vpm_words.specs.Laws.{IsBefore, LiesIn, IsReplaced, IsVpm, no_element}
 use Rattle.vpm_words.specs.declared.state.Element.{Element}
 use Rattle.vpm_words.proofs.PieceLaws.{Bounds, bounds}
 
@@ -169,3 +170,68 @@ elements_apart address t h = (
   λ i l. rw (element_is address t i l) (lies address t h i l),
   λ i j l m. rw (element_is address t i (omega (arith, l, m)), element_is address t j m) (before address t h i j l),
 )
+
+-- ---- a VPM stays one
+
+-- the sixteen words of a new row
+new_row : (vpm : List (List ℕ)) (row : ℕ) (words : List ℕ) → IsVpm vpm → length words ≡ 16 → ((i : ℕ) → get_or words i 0 < 2 ^ 32) → IsVpm (slice_set vpm row words)
+new_row vpm row words h n b = record { rows = length-set vpm row words ∙ h.rows; row = at; word = word }
+  where
+    at : (y : ℕ) → y < 64 → length (get_or (slice_set vpm row words) y []) ≡ 16
+    at y l = elim (cases_eq y row) [
+      | inl e ↦ (let rows = h.rows in ap length (ap (λ i. get_or (slice_set vpm row words) i []) e ∙ get_or-set_same vpm row words [] (omega (arith, e, l, rows))) ∙ n)
+      | inr d ↦ ap length (get_or-set_other vpm row y words [] d) ∙ h.row y l
+    ]
+
+    word : (y x : ℕ) → cell (slice_set vpm row words) y x < 2 ^ 32
+    word y x = elim (cases_eq y row) [
+      | inl e ↦ elim (cases_lt row (length vpm)) [
+        | inl l ↦ subst (λ r. get_or r x 0 < 2 ^ 32) (sym (ap (λ i. get_or (slice_set vpm row words) i []) e ∙ get_or-set_same vpm row words [] l)) (b x)
+        | inr g ↦ subst (λ v. cell v y x < 2 ^ 32) (sym (set_past vpm row words g)) (h.word y x)
+      ]
+      | inr d ↦ subst (λ r. get_or r x 0 < 2 ^ 32) (sym (get_or-set_other vpm row y words [] d)) (h.word y x)
+    ]
+
+new_word : (xs : List ℕ) (col w : ℕ) → w < 2 ^ 32 → ((i : ℕ) → get_or xs i 0 < 2 ^ 32) → (i : ℕ) → get_or (slice_set xs col w) i 0 < 2 ^ 32
+new_word xs col w small b i = elim (cases_eq i col) [
+  | inl e ↦ elim (cases_lt col (length xs)) [
+    | inl l ↦ subst (λ n. n < 2 ^ 32) (sym (ap (λ k. get_or (slice_set xs col w) k 0) e ∙ get_or-set_same xs col w 0 l)) small
+    | inr g ↦ subst (λ (ys : List ℕ). get_or ys i 0 < 2 ^ 32) (sym (set_past xs col w g)) (b i)
+  ]
+  | inr d ↦ subst (λ n. n < 2 ^ 32) (sym (get_or-set_other xs col i w 0 d)) (b i)
+]
+
+number_small : (n : ℕ) (memory : List ℕ) (at : ℕ) → ((k : ℕ) → get_or memory k 0 < 256) → number_at n memory at < 2 ^ (8 * n)
+number_small zero memory at b = omega arith
+number_small (suc n) memory at b =
+    let r = number_small n memory (at + 1) b in
+    let f = b at in
+    let p = pow-add 2 (8 * n) 8 in
+    let bits : 8 * suc n ≡ 8 * n + 8 = omega arith in
+    rw bits (omega (arith, r, f, p))
+
+new_cell : (vpm : List (List ℕ)) (row col w : ℕ) → IsVpm vpm → w < 2 ^ 32 → IsVpm (with_cell vpm row col w)
+new_cell vpm row col w h small = elim (cases_lt row 64) [
+  | inl l ↦ new_row vpm row (slice_set (get_or vpm row []) col w) h (length-set (get_or vpm row []) col w ∙ h.row row l) (new_word (get_or vpm row []) col w small (h.word row))
+  | inr g ↦ subst IsVpm (sym (set_past vpm row (slice_set (get_or vpm row []) col w) (let rows = h.rows in omega (arith, g, rows)))) h
+]
+
+new_load : (vpm : List (List ℕ)) (mode : ℕ) (e : Element) (memory : List ℕ) → IsVpm vpm → is_mode mode ≡ true → e.size ≡ size_of mode → e.low ≡ low_of mode → ((k : ℕ) → get_or memory k 0 < 256)
+    → IsVpm (load_element e memory vpm)
+unfolding load_element
+new_load vpm mode e memory h m s l b =
+    let small = number_small e.size memory e.address b in
+    new_cell vpm e.row e.col (with_part e.low e.size (cell vpm e.row e.col) (number_at e.size memory e.address)) h
+    (fits_at mode e.low e.size (cell vpm e.row e.col) (number_at e.size memory e.address) m s l (h.word e.row e.col) small)
+  where
+    fits_at : (mode low size word part : ℕ) → is_mode mode ≡ true → size ≡ size_of mode → low ≡ low_of mode → word < 2 ^ 32 → part < 2 ^ (8 * size) → with_part low size word part < 2 ^ 32
+    fits_at mode low size word part m s l h k = rw (l, s) ((part_replaced mode word part m h (rw (← s) k)).fits)
+
+pub vpm_kept : (vpm : List (List ℕ)) → IsVpm vpm
+    → ((y : Option ℕ) (words : List ℕ) → length words ≡ 16 → ((i : ℕ) → get_or words i 0 < 2 ^ 32) → IsVpm (put_row y words vpm))
+    × ((mode : ℕ) (e : Element) (memory : List ℕ) → is_mode mode ≡ true → e.size ≡ size_of mode → e.low ≡ low_of mode → ((k : ℕ) → get_or memory k 0 < 256) → IsVpm (load_element e memory vpm))
+vpm_kept vpm h = (row_kept, λ mode e memory m s l b. new_load vpm mode e memory h m s l b)
+  where
+    row_kept : (y : Option ℕ) (words : List ℕ) → length words ≡ 16 → ((i : ℕ) → get_or words i 0 < 2 ^ 32) → IsVpm (put_row y words vpm)
+    row_kept None words n b = h
+    row_kept (Some y) words n b = new_row vpm y words h n b

@@ -2,8 +2,8 @@
 use Rattle.std.proofs.Common.{arith, ◌≡◌, ℕ, ◌+◌, ◌<◌, ◌≤◌, true, false, Bool, List, refl, ap, sym, ◌∙◌, inl, inr}
 use Rattle.std.proofs.lemmas.Bool.{cases_lt}
 use Rattle.std.specs.Prelude.{Option, Some, None, if◌then◌else◌, ◌==◌}
-use Rattle.vpm_words.specs.Rules.{number, first_of, least, least_broken}
-use Rattle.vpm_words.specs.Access.{Site, seen, demand, breaks}
+use Rattle.vpm_words.specs.Rules.{number, first_of, least, least_broken, is_stalled}
+use Rattle.vpm_words.specs.Access.{Site, seen, demand, breaks, stalls}
 use Rattle.vpm_words.specs.Laws.{IsLeast}
 use Rattle.vpm_words.specs.declared.state.Access.{Access}
 use Rattle.vpm_words.specs.declared.state.Access.TheVariants.{Uniform, ReadVpm, WriteVpm, ReadSet, WriteSet, LoadAddr, StoreAddr, WaitLoad, WaitStore, Lock, Unlock}
@@ -25,6 +25,20 @@ split_agrees g p s WaitLoad value words = refl
 split_agrees g p s WaitStore value words = refl
 split_agrees g p s Lock value words = refl
 split_agrees g p s Unlock value words = refl
+
+pub stalls_agree : (g : Site) (p : Ports) (s : Shared) (a : Access) (value : ℕ) (words : List ℕ) → stalls (demand g p (Some a) value words) g.number s ≡ is_stalled a (seen g p s a value)
+unfolding seen
+stalls_agree g p s Uniform value words = refl
+stalls_agree g p s ReadVpm value words = refl
+stalls_agree g p s WriteVpm value words = refl
+stalls_agree g p s ReadSet value words = refl
+stalls_agree g p s WriteSet value words = refl
+stalls_agree g p s LoadAddr value words = refl
+stalls_agree g p s StoreAddr value words = refl
+stalls_agree g p s WaitLoad value words = refl
+stalls_agree g p s WaitStore value words = refl
+stalls_agree g p s Lock value words = refl
+stalls_agree g p s Unlock value words = refl
 
 -- ---- a rule is known by its number
 

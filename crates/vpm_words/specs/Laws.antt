@@ -3,8 +3,8 @@ use Rattle.std.specs.Prelude.{◌≡◌, ℕ, ◌+◌, ◌*◌, ◌/◌, ◌%◌
 use Rattle.vpm_words.specs.Piece.{Piece, IsTransfer, is_mode}
 use Rattle.vpm_words.specs.Elements.{size_of, low_of, elements_of}
 use Rattle.vpm_words.specs.Moves.{part_of, with_part, number_at, bytes_of, put_bytes, cell, load_element, store_element}
-use Rattle.vpm_words.specs.Rules.{number, least, least_broken}
-use Rattle.vpm_words.specs.Access.{Site, seen, demand, breaks}
+use Rattle.vpm_words.specs.Rules.{number, least, least_broken, is_stalled}
+use Rattle.vpm_words.specs.Access.{Site, seen, demand, breaks, stalls, put_row}
 use Rattle.vpm_words.specs.declared.state.Access.{Access}
 use Rattle.vpm_words.specs.declared.state.Element.{Element}
 use Rattle.vpm_words.specs.declared.state.Ports.{Ports}
@@ -16,6 +16,12 @@ abbrev pub SplitAgrees : Type 0
 SplitAgrees =
     (g : Site) (p : Ports) (s : Shared) (a : Access) (value : ℕ) (words : List ℕ)
     → breaks (demand g p (Some a) value words) g.number s ≡ least_broken a p.age (seen g p s a value)
+
+-- and it stalls where the access does
+abbrev pub StallsAgree : Type 0
+StallsAgree =
+    (g : Site) (p : Ports) (s : Shared) (a : Access) (value : ℕ) (words : List ℕ)
+    → stalls (demand g p (Some a) value words) g.number s ≡ is_stalled a (seen g p s a value)
 
 -- the rule is found by the test, and none before it is
 abbrev pub IsLeast : (Rule → Bool) → Option Rule → Type 0
@@ -77,3 +83,16 @@ MovedAgain =
     (mode : ℕ) (e : Element) (vpm other : List (List ℕ)) (memory : List ℕ) → is_mode mode ≡ true → e.size ≡ size_of mode → e.low ≡ low_of mode
     → e.address + e.size ≤ length memory → e.row < length other → e.col < length (get_or other e.row [])
     → part_of e.low e.size (cell (load_element e (store_element e vpm memory) other) e.row e.col) ≡ part_of e.low e.size (cell vpm e.row e.col)
+
+-- a VPM: 64 rows of sixteen words
+pub record IsVpm (vpm : List (List ℕ)) : Type 0 where
+  pub rows : length vpm ≡ 64
+  pub row : (y : ℕ) → y < 64 → length (get_or vpm y []) ≡ 16
+  pub word : (y x : ℕ) → cell vpm y x < 2 ^ 32
+
+-- a write of a row and a load of an element leave it one
+abbrev pub VpmKept : Type 0
+VpmKept =
+    (vpm : List (List ℕ)) → IsVpm vpm
+    → ((y : Option ℕ) (words : List ℕ) → length words ≡ 16 → ((i : ℕ) → get_or words i 0 < 2 ^ 32) → IsVpm (put_row y words vpm))
+    × ((mode : ℕ) (e : Element) (memory : List ℕ) → is_mode mode ≡ true → e.size ≡ size_of mode → e.low ≡ low_of mode → ((k : ℕ) → get_or memory k 0 < 256) → IsVpm (load_element e memory vpm))

@@ -5,3 +5,4 @@ pub mod Moves
 pub mod Rules
 pub mod Access
 pub mod Laws
+pub mod Cases

@@ -4,7 +4,7 @@ use Rattle.vpm_words.specs.declared.setup.ReadSetup.{ReadSetup}
 use Rattle.vpm_words.specs.declared.setup.ReadSetup.TheVariants as reading
 use Rattle.vpm_words.specs.Words.{read_setup_of, write_setup_of}
 use Rattle.vpm_words.specs.declared.state.Access.{Access}
-use Rattle.vpm_words.specs.declared.state.Access.TheVariants.{Uniform, ReadVpm, WriteVpm, ReadSet, WriteSet, LoadAddr, StoreAddr, Lock, Unlock}
+use Rattle.vpm_words.specs.declared.state.Access.TheVariants.{Uniform, ReadVpm, WriteVpm, ReadSet, WriteSet, LoadAddr, StoreAddr, WaitLoad, WaitStore, Lock, Unlock}
 use Rattle.vpm_words.specs.declared.state.Owner.{Owner}
 use Rattle.vpm_words.specs.declared.state.Owner.TheVariants.{Nobody, Me, Other}
 use Rattle.vpm_words.specs.declared.state.Rule.{Rule}
@@ -141,3 +141,10 @@ least t =
 -- the least rule that an access breaks
 unfoldable pub least_broken : Access → ℕ → Seen → Option Rule
 least_broken a age s = least (is_broken a age s)
+
+-- where no rule is broken: the mutex is another QPU's, or the engine that is waited for has elements left
+abbrev pub is_stalled : Access → Seen → Bool
+is_stalled Lock s = is_other s.owner
+is_stalled WaitLoad s = s.load_busy
+is_stalled WaitStore s = s.store_busy
+is_stalled _ s = false

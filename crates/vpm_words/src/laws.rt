@@ -1,10 +1,12 @@
 //! Laws of the definitions. Each is a call that does nothing, and its contract is the law.
 
-ghost use Rattle.vpm_words.specs.Laws.{SplitAgrees, LeastIsLeast, ElementsApart, PartReplaced, BytesPut, MovedAgain};
+ghost use Rattle.vpm_words.specs.Cases.{KnownRules, KnownStalls, KnownEffects};
+ghost use Rattle.vpm_words.specs.Laws.{SplitAgrees, StallsAgree, LeastIsLeast, ElementsApart, PartReplaced, BytesPut, MovedAgain, VpmKept};
 
 /// An access split into its demand on what is shared breaks the least of the rules that it breaks, each of them tested by itself.
 pub fn law_rules()
     ensures split { SplitAgrees }
+    ensures stalls { StallsAgree }
     ensures least { LeastIsLeast }
 {}
 
@@ -18,4 +20,12 @@ pub fn law_moves()
     ensures part { PartReplaced }
     ensures bytes { BytesPut }
     ensures again { MovedAgain }
+    ensures vpm { VpmKept }
+{}
+
+/// Each restriction where it is broken and where it just isn't, the stalls, and what accesses do, by examples.
+pub fn law_cases()
+    ensures rules { KnownRules }
+    ensures stalls { KnownStalls }
+    ensures effects { KnownEffects }
 {}

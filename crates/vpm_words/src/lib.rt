@@ -7,7 +7,7 @@ mod setup;
 mod state;
 mod transfer;
 
-pub use laws::{law_elements, law_moves, law_rules};
+pub use laws::{law_cases, law_elements, law_moves, law_rules};
 pub use queue::Queue;
 pub use setup::{
     ReadSetup, WriteSetup, load_set, parse_read, parse_write, read_set, store_set, write_set,

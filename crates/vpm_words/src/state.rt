@@ -103,21 +103,38 @@ pub struct Seen {
 /// The restrictions of the processor, in order of number.
 #[derive(Clone, Copy, Debug, PartialEq, Eq)]
 pub enum Rule {
+    /// The place is outside the code, or the word is outside the profile.
     H0,
+    /// The word reads a register of file A or B that the word before it wrote.
     H1,
+    /// The word rotates what isn't an accumulator, or one that the word before it wrote.
     H2,
+    /// The word rotates by r5, which the word before it wrote.
     H3,
+    /// A uniform is read past the QPU's last one.
     H4,
+    /// The word has two or more peripheral accesses.
     H5,
+    /// A branch or program end stands in a delay slot, or in the two words after a program end.
     H6,
+    /// A program end writes a register of a file, or it or one of the two words after it has a peripheral access.
     H7,
+    /// The owner acquires the mutex, or a QPU that isn't the owner releases it.
     H8,
+    /// A QPU that isn't the owner accesses the VPM, a setup, an address or a wait.
     H9,
+    /// A row of the VPM is read or written in which an element of a transfer is left.
     H10,
+    /// A transfer is started on an engine that has elements left, or the mutex is released while either has.
     H11,
+    /// A transfer is started whose address isn't a multiple of the element's size, or whose bytes don't lie in one buffer or the scratch.
     H12,
+    /// A read of the VPM has no row left, or comes fewer than three words after the read setup of rows.
     H13,
+    /// The value of a setup is no setup's word.
     H14,
+    /// The VPM is written without a write row, or a transfer is started without its setup.
     H15,
+    /// Rows are asked for while rows of the last read setup are left.
     H16,
 }

@@ -1,4 +1,4 @@
-use Rattle.vpm_words.proofs.MoveLaws.{part_replaced, bytes_put, moved_again}
+use Rattle.vpm_words.proofs.MoveLaws.{part_replaced, bytes_put, moved_again, vpm_kept}
 use Rattle.vpm_words.proofs.laws.law_moves.Goals as goal
 
 pub returns-clause-part : goal.returns-clause-part
@@ -9,3 +9,6 @@ returns-clause-bytes c = λ memory at n x h. bytes_put memory at n x h
 
 pub returns-clause-again : goal.returns-clause-again
 returns-clause-again c = λ mode e vpm other memory m s l a r k. moved_again mode e vpm other memory m s l a r k
+
+pub returns-clause-vpm : goal.returns-clause-vpm
+returns-clause-vpm c = λ vpm h. vpm_kept vpm h

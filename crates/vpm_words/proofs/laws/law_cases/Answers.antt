@@ -1,0 +1,11 @@
+use Rattle.vpm_words.proofs.CaseLaws.{known_rules, known_stalls, known_effects}
+use Rattle.vpm_words.proofs.laws.law_cases.Goals as goal
+
+pub returns-clause-rules : goal.returns-clause-rules
+returns-clause-rules c = known_rules
+
+pub returns-clause-stalls : goal.returns-clause-stalls
+returns-clause-stalls c = known_stalls
+
+pub returns-clause-effects : goal.returns-clause-effects
+returns-clause-effects c = known_effects
