@@ -1,0 +1,125 @@
+-- The restrictions on a word, each as a test of its own, and the least one that is broken.
+use Rattle.std.specs.Prelude.{◌≡◌, ℕ, ◌/◌, ◌%◌, ◌^◌, ◌<◌, Bool, true, false, not, nat_le, nat_lt, ◌==◌, ◌||◌, ◌&&◌, Option, Some, None, List, [], ◌∷◌}
+use Rattle.qpu_encode.specs.declared.form.Form.{Form}
+use Rattle.qpu_rules.specs.declared.access.Accesses.{Accesses}
+use Rattle.qpu_rules.specs.declared.access.Accesses.TheVariants.{Nothing, One, Several}
+use Rattle.qpu_rules.specs.declared.recent.Recent.{Recent}
+use Rattle.qpu_rules.specs.Uses.{is_end, is_branch, file_read, writes_file, rotates, rotates_by_five, mul_selectors, accesses, count_of, reads_uniform}
+use Rattle.vpm_words.specs.Rules as access
+use Rattle.vpm_words.specs.Rules.{number, first_of, least}
+use Rattle.vpm_words.specs.declared.state.Access.{Access}
+use Rattle.vpm_words.specs.declared.state.Access.TheVariants.{Uniform}
+use Rattle.vpm_words.specs.declared.state.Rule.{Rule}
+use Rattle.vpm_words.specs.declared.state.Rule.TheVariants.{H0, H1, H2, H3, H4, H5, H6, H7, H8, H9, H10, H11, H12, H13, H14, H15, H16}
+use Rattle.vpm_words.specs.declared.state.Seen.{Seen}
+
+-- both are the same register
+abbrev pub is_same : Option ℕ → Option ℕ → Bool
+is_same None y = false
+is_same (Some x) None = false
+is_same (Some x) (Some y) = x == y
+
+-- bit i of the accumulators is set
+abbrev pub has_acc : ℕ → ℕ → Bool
+has_acc accs i = (accs / 2 ^ i) % 2 == 1
+
+-- a selector of an accumulator that the word before didn't write
+abbrev pub is_settled : ℕ → ℕ → Bool
+is_settled accs selector = nat_le selector 3 && not (has_acc accs selector)
+
+abbrev pub are_settled : ℕ → List ℕ → Bool
+are_settled accs [] = true
+are_settled accs (x ∷ xs) = is_settled accs x && are_settled accs xs
+
+-- the word reads a register of file A or B that the word before it wrote
+unfoldable pub breaks_h1 : Form → Recent → Bool
+breaks_h1 f r = is_same r.file_a (file_read false f) || is_same r.file_b (file_read true f)
+
+-- the word rotates, and a mul selector isn't 0 to 3 or names an accumulator that the word before it wrote
+unfoldable pub breaks_h2 : Form → Recent → Bool
+breaks_h2 f r = rotates f && not (are_settled r.accs (mul_selectors f))
+
+-- the word rotates by r5, which the word before it wrote
+unfoldable pub breaks_h3 : Form → Recent → Bool
+breaks_h3 f r = rotates_by_five f && r.five
+
+-- a uniform is read and none is left
+unfoldable pub breaks_h4 : Form → Seen → Bool
+breaks_h4 f s = reads_uniform f && access.breaks_h4 Uniform s
+
+abbrev pub is_several : Accesses → Bool
+is_several Nothing = false
+is_several (One a) = false
+is_several Several = true
+
+abbrev pub is_nothing : Accesses → Bool
+is_nothing Nothing = true
+is_nothing (One a) = false
+is_nothing Several = false
+
+-- the word has two or more peripheral accesses
+unfoldable pub breaks_h5 : Form → Bool
+breaks_h5 f = is_several (count_of (accesses f))
+
+-- a branch or program end stands in a delay slot, or in the two words after a program end
+unfoldable pub breaks_h6 : Form → Recent → Bool
+breaks_h6 f r = (is_branch f || is_end f) && (nat_lt 0 r.slots || nat_lt 0 r.ending)
+
+-- a program end writes a register of a file, or it or one of the two words after it has a peripheral access
+unfoldable pub breaks_h7 : Form → Recent → Bool
+breaks_h7 f r = (is_end f && writes_file f) || ((is_end f || nat_lt 0 r.ending) && not (is_nothing (count_of (accesses f))))
+
+-- the word's access passes a test; with several accesses a lower rule is broken, so none of them is looked at
+abbrev pub only : (Access → Bool) → Accesses → Bool
+only test Nothing = false
+only test (One a) = test a
+only test Several = false
+
+-- whether a word breaks a rule: H0 isn't a matter of words of the profile
+abbrev pub breaks : Form → Recent → Seen → Rule → Bool
+breaks f r s H0 = false
+breaks f r s H1 = breaks_h1 f r
+breaks f r s H2 = breaks_h2 f r
+breaks f r s H3 = breaks_h3 f r
+breaks f r s H4 = breaks_h4 f s
+breaks f r s H5 = breaks_h5 f
+breaks f r s H6 = breaks_h6 f r
+breaks f r s H7 = breaks_h7 f r
+breaks f r s H8 = only (λ a. access.breaks_h8 a s) (count_of (accesses f))
+breaks f r s H9 = only (λ a. access.breaks_h9 a s) (count_of (accesses f))
+breaks f r s H10 = only (λ a. access.breaks_h10 a s) (count_of (accesses f))
+breaks f r s H11 = only (λ a. access.breaks_h11 a s) (count_of (accesses f))
+breaks f r s H12 = only (λ a. access.breaks_h12 a s) (count_of (accesses f))
+breaks f r s H13 = only (λ a. access.breaks_h13 a r.age s) (count_of (accesses f))
+breaks f r s H14 = only (λ a. access.breaks_h14 a s) (count_of (accesses f))
+breaks f r s H15 = only (λ a. access.breaks_h15 a s) (count_of (accesses f))
+breaks f r s H16 = only (λ a. access.breaks_h16 a s) (count_of (accesses f))
+
+-- the first rule that is broken, in order of number
+unfoldable pub least_rule : Form → Recent → Seen → Option Rule
+least_rule f r s = least (breaks f r s)
+
+-- the least rule of an access, from H8 on
+unfoldable pub least_of_access : Access → ℕ → Seen → Option Rule
+least_of_access a age s =
+    first_of (access.breaks_h8 a s) H8 (first_of (access.breaks_h9 a s) H9 (first_of (access.breaks_h10 a s) H10
+    (first_of (access.breaks_h11 a s) H11 (first_of (access.breaks_h12 a s) H12 (first_of (access.breaks_h13 a age s) H13
+    (first_of (access.breaks_h14 a s) H14 (first_of (access.breaks_h15 a s) H15 (first_of (access.breaks_h16 a s) H16 None))))))))
+
+-- the least rule of a word's accesses, from H8 on
+unfoldable pub least_of_accesses : Accesses → ℕ → Seen → Option Rule
+least_of_accesses n age s =
+    first_of (only (λ a. access.breaks_h8 a s) n) H8 (first_of (only (λ a. access.breaks_h9 a s) n) H9
+    (first_of (only (λ a. access.breaks_h10 a s) n) H10 (first_of (only (λ a. access.breaks_h11 a s) n) H11
+    (first_of (only (λ a. access.breaks_h12 a s) n) H12 (first_of (only (λ a. access.breaks_h13 a age s) n) H13
+    (first_of (only (λ a. access.breaks_h14 a s) n) H14 (first_of (only (λ a. access.breaks_h15 a s) n) H15
+    (first_of (only (λ a. access.breaks_h16 a s) n) H16 None))))))))
+
+-- the rule is broken, and none of a lower number is
+pub record IsLeastBroken (f : Form) (r : Recent) (s : Seen) (rule : Rule) : Type 0 where
+  pub broken : breaks f r s rule ≡ true
+  pub lower : (q : Rule) → number q < number rule → breaks f r s q ≡ false
+
+-- no rule of H1 to H16 is broken
+abbrev pub IsLawful : Form → Recent → Seen → Type 0
+IsLawful f r s = (q : Rule) → breaks f r s q ≡ false

@@ -1,0 +1,14 @@
+//! Which restriction of the processor a word breaks.
+#![tactic(auto)]
+
+mod access;
+mod recent;
+mod registers;
+mod rules;
+
+pub use recent::Recent;
+pub use rules::first_broken;
+pub use vpm_words::{Owner, Rule, Seen};
+
+#[cfg(test)]
+mod tests;
