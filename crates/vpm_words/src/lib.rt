@@ -3,12 +3,14 @@
 
 mod laws;
 mod queue;
+mod regions;
 mod setup;
 mod state;
 mod transfer;
 
 pub use laws::{law_cases, law_elements, law_moves, law_rules};
 pub use queue::Queue;
+pub use regions::may_start;
 pub use setup::{
     ReadSetup, WriteSetup, load_set, parse_read, parse_write, read_set, store_set, write_set,
 };

@@ -82,8 +82,10 @@ impl Queue {
     }
 }
 
-fn size_in_bytes(mode: u8) -> u8
+/// How many bytes an element of this mode has.
+pub fn size_in_bytes(mode: u8) -> u8
     ensures size { result ≡ size_of mode }
+    ensures some { 1 ≤ result }
     ensures most { result ≤ 4 }
 {
     if mode == 0 {

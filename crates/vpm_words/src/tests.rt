@@ -1,8 +1,8 @@
 ghost use Rattle.std.specs.Prelude.{◌≤◌, ◌+◌};
 
 use super::{
-    ReadSetup, Transfer, WriteSetup, load_set, parse_read, parse_write, read_set, store_set,
-    write_set,
+    ReadSetup, Region, Transfer, WriteSetup, load_set, may_start, parse_read, parse_write,
+    read_set, store_set, write_set,
 };
 
 // Words of row 0.
@@ -93,5 +93,55 @@ fn no_write_setup(rt: HostRuntime) {
         0x8011_1000, // a load
     ] {
         assert_eq!(rt; parse_write(word), None, "at {word}");
+    }
+}
+
+#[test]
+fn transfers_stay_in_one_region(rt: HostRuntime) {
+    let buffers = [
+        Region {
+            start: 256,
+            len: 64,
+        },
+        Region {
+            start: 320,
+            len: 64,
+        },
+    ];
+    let scratch = Region {
+        start: 512,
+        len: 64,
+    };
+    let words = Transfer {
+        mode: 0,
+        len: 2,
+        row: 9,
+        col: 0,
+    };
+    let bytes = Transfer {
+        mode: 4,
+        len: 3,
+        row: 9,
+        col: 0,
+    };
+    for (transfer, address, want) in [
+        (words, 252, false),
+        (words, 256, true),
+        (words, 258, false),
+        (words, 312, true),
+        (words, 316, false),
+        (words, 376, true),
+        (words, 380, false),
+        (words, 568, true),
+        (words, 572, false),
+        (bytes, 317, true),
+        (bytes, 318, false),
+        (words, 4_294_967_292, false),
+    ] {
+        assert_eq!(rt;
+            may_start(&buffers, &scratch, transfer, address),
+            want,
+            "at {address}"
+        );
     }
 }
