@@ -4,7 +4,7 @@ use Rattle.qpu_encode.specs.declared.form.Form.{Form}
 use Rattle.qpu_rules.specs.declared.access.Accesses.{Accesses}
 use Rattle.qpu_rules.specs.declared.access.Accesses.TheVariants.{Nothing, One, Several}
 use Rattle.qpu_rules.specs.declared.recent.Recent.{Recent}
-use Rattle.qpu_rules.specs.Uses.{is_end, is_branch, file_read, writes_file, rotates, rotates_by_five, mul_selectors, accesses, count_of, reads_uniform}
+use Rattle.qpu_rules.specs.Uses.{is_end, is_branch, file_read, writes_file, rotates, rotates_by_five, mul_selectors, accesses, count_of, reads_uniform, writes_acc, accs_written}
 use Rattle.vpm_words.specs.Rules as access
 use Rattle.vpm_words.specs.Rules.{number, first_of, least}
 use Rattle.vpm_words.specs.declared.state.Access.{Access}
@@ -123,3 +123,10 @@ pub record IsLeastBroken (f : Form) (r : Recent) (s : Seen) (rule : Rule) : Type
 -- no rule of H1 to H16 is broken
 abbrev pub IsLawful : Form → Recent → Seen → Type 0
 IsLawful f r s = (q : Rule) → breaks f r s q ≡ false
+
+-- bit i of the accumulators that a word writes is set exactly where it writes accumulator i
+abbrev pub AccsAreBits : Type 0
+AccsAreBits =
+    (f : Form)
+    → (has_acc (accs_written f) 0 ≡ writes_acc 0 f) × (has_acc (accs_written f) 1 ≡ writes_acc 1 f)
+    × (has_acc (accs_written f) 2 ≡ writes_acc 2 f) × (has_acc (accs_written f) 3 ≡ writes_acc 3 f)
