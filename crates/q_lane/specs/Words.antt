@@ -1,7 +1,9 @@
 -- What each operation on words gives. A word is a number from 0 to 2^32 - 1.
 -- The public sources are OpenCL C 1.2, sections 6.1 (types), 6.2 (conversions), 6.3 (operators) and 6.12.3 (integer functions), and, for
 -- what the processor does itself (add, sub, min, max, and, or, xor, not, shl, shr, asr, clz, mul24), Broadcom, VideoCore IV 3D Architecture
--- Reference Guide, QPU chapter. Where OpenCL C leaves a value open, as for x / 0, the rule is this project's own and says so.
+-- Reference Guide, QPU chapter. Where these leave a value open the rule is this project's own: signed sums and products wrap, a shift of
+-- a negative number to the right copies its sign, mul24 takes the low 24 bits of numbers outside its range, clz of 0 is 32, and what is
+-- said at the quotient and the remainder.
 -- Where an operation has a Bool, true reads both words as signed.
 use Rattle.std.specs.Prelude.{ℕ, ◌+◌, ◌-◌, ◌*◌, ◌/◌, ◌%◌, ◌^◌, Bool, true, false, if◌then◌else◌, nat_lt, ◌==◌, bit_and, bit_or, bit_xor, count_ones, ℤ, pos, negsuc, ◌*ℤ◌, int_lt, int_div, int_rem}
 use Rattle.std.specs.Int.{cast_signed, w32, int_div_euclid}

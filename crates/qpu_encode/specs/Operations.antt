@@ -1,5 +1,6 @@
 -- What the QPU's operations mean on one element, over the operations on words of q_lane (Broadcom, VideoCore IV 3D Architecture Reference
--- Guide, QPU chapter: ALU instructions, condition codes, pack and unpack, small immediates). A word is a number from 0 to 2^32 - 1.
+-- Guide, QPU chapter: ALU instructions, condition codes, pack and unpack, small immediates). This project's own are Mul32, MulHs and
+-- MulHu, and that clz of 0 is 32. A word is a number from 0 to 2^32 - 1.
 use Rattle.std.specs.Prelude.{ℕ, ◌+◌, ◌-◌, ◌*◌, ◌/◌, ◌%◌, ◌^◌, Bool, true, false, not, ◌&&◌, ◌==◌, nat_le, if◌then◌else◌, min}
 use Rattle.q_lane.specs.declared.kinds.Scalar.TheVariants.{Short}
 use Rattle.q_lane.specs.declared.operations.BinOp.TheVariants as word_op

@@ -69,11 +69,10 @@ breaks_h6 f r = (is_branch f || is_end f) && (nat_lt 0 r.slots || nat_lt 0 r.end
 unfoldable pub breaks_h7 : Form → Recent → Bool
 breaks_h7 f r = (is_end f && writes_file f) || ((is_end f || nat_lt 0 r.ending) && not (is_nothing (count_of (accesses f))))
 
--- the word's access passes a test; with several accesses a lower rule is broken, so none of them is looked at
-abbrev pub only : (Access → Bool) → Accesses → Bool
-only test Nothing = false
-only test (One a) = test a
-only test Several = false
+-- one of the accesses passes a test
+abbrev pub any : (Access → Bool) → List Access → Bool
+any test [] = false
+any test (a ∷ others) = any test others || test a
 
 -- whether a word breaks a rule: H0 isn't a matter of words of the profile
 abbrev pub breaks : Form → Recent → Seen → Rule → Bool
@@ -85,15 +84,15 @@ breaks f r s H4 = breaks_h4 f s
 breaks f r s H5 = breaks_h5 f
 breaks f r s H6 = breaks_h6 f r
 breaks f r s H7 = breaks_h7 f r
-breaks f r s H8 = only (λ a. access.breaks_h8 a s) (count_of (accesses f))
-breaks f r s H9 = only (λ a. access.breaks_h9 a s) (count_of (accesses f))
-breaks f r s H10 = only (λ a. access.breaks_h10 a s) (count_of (accesses f))
-breaks f r s H11 = only (λ a. access.breaks_h11 a s) (count_of (accesses f))
-breaks f r s H12 = only (λ a. access.breaks_h12 a s) (count_of (accesses f))
-breaks f r s H13 = only (λ a. access.breaks_h13 a r.age s) (count_of (accesses f))
-breaks f r s H14 = only (λ a. access.breaks_h14 a s) (count_of (accesses f))
-breaks f r s H15 = only (λ a. access.breaks_h15 a s) (count_of (accesses f))
-breaks f r s H16 = only (λ a. access.breaks_h16 a s) (count_of (accesses f))
+breaks f r s H8 = any (λ a. access.breaks_h8 a s) (accesses f)
+breaks f r s H9 = any (λ a. access.breaks_h9 a s) (accesses f)
+breaks f r s H10 = any (λ a. access.breaks_h10 a s) (accesses f)
+breaks f r s H11 = any (λ a. access.breaks_h11 a s) (accesses f)
+breaks f r s H12 = any (λ a. access.breaks_h12 a s) (accesses f)
+breaks f r s H13 = any (λ a. access.breaks_h13 a r.age s) (accesses f)
+breaks f r s H14 = any (λ a. access.breaks_h14 a s) (accesses f)
+breaks f r s H15 = any (λ a. access.breaks_h15 a s) (accesses f)
+breaks f r s H16 = any (λ a. access.breaks_h16 a s) (accesses f)
 
 -- the first rule that is broken, in order of number
 unfoldable pub least_rule : Form → Recent → Seen → Option Rule
@@ -106,14 +105,11 @@ least_of_access a age s =
     (first_of (access.breaks_h11 a s) H11 (first_of (access.breaks_h12 a s) H12 (first_of (access.breaks_h13 a age s) H13
     (first_of (access.breaks_h14 a s) H14 (first_of (access.breaks_h15 a s) H15 (first_of (access.breaks_h16 a s) H16 None))))))))
 
--- the least rule of a word's accesses, from H8 on
+-- the same where a word has several, which breaks a lower rule, or none
 unfoldable pub least_of_accesses : Accesses → ℕ → Seen → Option Rule
-least_of_accesses n age s =
-    first_of (only (λ a. access.breaks_h8 a s) n) H8 (first_of (only (λ a. access.breaks_h9 a s) n) H9
-    (first_of (only (λ a. access.breaks_h10 a s) n) H10 (first_of (only (λ a. access.breaks_h11 a s) n) H11
-    (first_of (only (λ a. access.breaks_h12 a s) n) H12 (first_of (only (λ a. access.breaks_h13 a age s) n) H13
-    (first_of (only (λ a. access.breaks_h14 a s) n) H14 (first_of (only (λ a. access.breaks_h15 a s) n) H15
-    (first_of (only (λ a. access.breaks_h16 a s) n) H16 None))))))))
+least_of_accesses Nothing age s = None
+least_of_accesses (One a) age s = least_of_access a age s
+least_of_accesses Several age s = None
 
 -- the rule is broken, and none of a lower number is
 pub record IsLeastBroken (f : Form) (r : Recent) (s : Seen) (rule : Rule) : Type 0 where

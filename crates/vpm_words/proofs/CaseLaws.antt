@@ -3,7 +3,8 @@ use Rattle.std.proofs.Common.{refl}
 use Rattle.vpm_words.specs.Words.{load_word, store_word, rows_word, row_word, read_setup_of, write_setup_of}
 use Rattle.vpm_words.specs.Elements.{elements_of}
 use Rattle.vpm_words.specs.Access.{fits, ports_after}
-use Rattle.vpm_words.specs.Cases.{KnownRules, KnownStalls, KnownEffects}
+use Rattle.vpm_words.specs.Moves.{load_element, store_element, bytes_out}
+use Rattle.vpm_words.specs.Cases.{KnownRules, KnownStalls, KnownEffects, KnownShares}
 
 pub known_rules : KnownRules
 unfolding load_word store_word rows_word row_word read_setup_of write_setup_of fits elements_of
@@ -30,10 +31,12 @@ known_rules =
       read_none_left = refl;
       read_early = refl;
       read_busy_early = refl;
+      read_last = refl;
       write = refl;
       write_busy = refl;
       write_unset = refl;
       unlock_busy = refl;
+      unlock_loading = refl;
       start_busy = refl;
       start_beside = refl;
       start = refl;
@@ -43,6 +46,8 @@ known_rules =
       start_past = refl;
       start_in_two = refl;
       start_unset = refl;
+      store_unset = refl;
+      rows_before_last = refl;
       rows_again = refl;
       rows = refl;
       load_while_rows = refl;
@@ -82,4 +87,22 @@ known_effects =
       put_byte = refl;
       little_end = refl;
       little_end_out = refl;
+    }
+
+pub known_shares : KnownShares
+unfolding elements_of row_word write_setup_of fits load_element store_element bytes_out
+known_shares =
+    record {
+      lock = refl;
+      unlock = refl;
+      start_load = refl;
+      start_store = refl;
+      write = refl;
+      read = refl;
+      uniform = refl;
+      set = refl;
+      wait = refl;
+      load_whole = refl;
+      store_whole = refl;
+      acquired = refl;
     }

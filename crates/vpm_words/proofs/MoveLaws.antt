@@ -1,5 +1,5 @@
 -- Elements of a transfer, and moving one.
-use Rattle.std.proofs.Common.{arith, ◌≡◌, ℕ, zero, suc, ◌+◌, ◌*◌, ◌/◌, ◌%◌, ◌^◌, ◌<◌, ◌≤◌, true, List, [], ◌∷◌, length, refl, ap, ◌∙◌, sym, subst, inl, inr}
+use Rattle.std.proofs.Common.{arith, ◌≡◌, ◌≢◌, ℕ, zero, suc, ◌+◌, ◌*◌, ◌/◌, ◌%◌, ◌^◌, ◌<◌, ◌≤◌, true, List, [], ◌∷◌, length, refl, ap, ◌∙◌, sym, subst, inl, inr}
 use Rattle.std.proofs.lemmas.Bool.{and_parts, cases_eq, cases_lt}
 use Rattle.std.proofs.lemmas.Bool.Decides.{nat_tests}
 use Rattle.std.proofs.lemmas.Nat.{mod-pow-add, pow_pos, pow-add, mod_below}
@@ -10,7 +10,7 @@ use Rattle.vpm_words.specs.Piece.{Piece, IsTransfer, is_mode}
 use Rattle.vpm_words.specs.Elements.{size_of, low_of, element_at, elements_of}
 use Rattle.vpm_words.specs.Moves.{part_of, with_part, number_at, bytes_of, put_bytes, cell, with_cell, load_element, store_element, bytes_out}
 use Rattle.vpm_words.specs.Access.{put_row}
-use Rattle.vpm_words.specs.Laws.{IsBefore, LiesIn, IsReplaced, IsVpm, no_element}
+use Rattle.vpm_words.specs.Laws.{IsBefore, LiesIn, IsReplaced, IsVpm, OthersStay, no_element}
 use Rattle.vpm_words.specs.declared.state.Element.{Element}
 use Rattle.vpm_words.proofs.PieceLaws.{Bounds, bounds}
 
@@ -249,3 +249,36 @@ vpm_kept vpm h = (row_kept, λ mode e memory m s l b. new_load vpm mode e memory
     row_kept : (y : Option ℕ) (words : List ℕ) → length words ≡ 16 → ((i : ℕ) → get_or words i 0 < 2 ^ 32) → IsVpm (put_row y words vpm)
     row_kept None words n b = h
     row_kept (Some y) words n b = new_row vpm y words h n b
+
+-- ---- what a move doesn't touch stays
+
+row_other : (vpm : List (List ℕ)) (e : Element) (memory : List ℕ) (y : ℕ) → y ≢ e.row → get_or (load_element e memory vpm) y [] ≡ get_or vpm y []
+unfolding load_element
+row_other vpm e memory y d = get_or-set_other vpm e.row y _ [] d
+
+cell_same : (vpm : List (List ℕ)) (row col w : ℕ) → row < length vpm → col < length (get_or vpm row []) → cell (with_cell vpm row col w) row col ≡ w
+cell_same vpm row col w l m =
+    ap (λ r. get_or r col 0) (get_or-set_same vpm row (slice_set (get_or vpm row []) col w) [] l) ∙ get_or-set_same (get_or vpm row []) col w 0 m
+
+cell_other : (vpm : List (List ℕ)) (row col w y x : ℕ) → x ≢ col → cell (with_cell vpm row col w) y x ≡ cell vpm y x
+cell_other vpm row col w y x d = elim (cases_eq y row) [
+  | inl e ↦ elim (cases_lt row (length vpm)) [
+    | inl l ↦
+        (ap (λ i. cell (with_cell vpm row col w) i x) e
+        ∙ ap (λ r. get_or r x 0) (get_or-set_same vpm row (slice_set (get_or vpm row []) col w) [] l)
+        ∙ get_or-set_other (get_or vpm row []) col x w 0 d
+        ∙ ap (λ i. cell vpm i x) (sym e))
+    | inr g ↦ ap (λ v. cell v y x) (set_past vpm row (slice_set (get_or vpm row []) col w) g)
+  ]
+  | inr n ↦ ap (λ r. get_or r x 0) (get_or-set_other vpm row y (slice_set (get_or vpm row []) col w) [] n)
+]
+
+pub others_stay : OthersStay
+unfolding load_element
+others_stay vpm = (
+  λ row words l. get_or-set_same vpm row words [] l,
+  λ row y words d. get_or-set_other vpm row y words [] d,
+  λ e memory l m. cell_same vpm e.row e.col _ l m,
+  λ e memory y d. row_other vpm e memory y d,
+  λ e memory y x d. cell_other vpm e.row e.col _ y x d,
+)

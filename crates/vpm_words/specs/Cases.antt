@@ -4,7 +4,7 @@ use Rattle.vpm_words.specs.Piece.{Piece}
 use Rattle.vpm_words.specs.Words.{load_word, store_word, rows_word, row_word}
 use Rattle.vpm_words.specs.Elements.{element_at, elements_of}
 use Rattle.vpm_words.specs.Moves.{with_part, number_at, bytes_of}
-use Rattle.vpm_words.specs.Access.{Site, no_setups, incoming, demand, breaks, stalls, ports_after}
+use Rattle.vpm_words.specs.Access.{Site, no_setups, incoming, StartLoad, StartStore, Take, demand, breaks, stalls, share, ports_after, at_once}
 use Rattle.vpm_words.specs.declared.state.Access.{Access}
 use Rattle.vpm_words.specs.declared.state.Access.TheVariants.{Uniform, ReadVpm, WriteVpm, ReadSet, WriteSet, LoadAddr, StoreAddr, WaitLoad, WaitStore, Lock, Unlock}
 use Rattle.vpm_words.specs.declared.state.Element.{Element}
@@ -65,10 +65,12 @@ pub record KnownRules : Type 0 where
   pub read_none_left : broken (record set_up { rows_left = 0 }) (record mine { loads = in_row 5 }) ReadVpm 0 ≡ Some H13
   pub read_early : broken (record set_up { age = 2 }) mine ReadVpm 0 ≡ Some H13
   pub read_busy_early : broken (record set_up { age = 2 }) (record mine { loads = in_row 5 }) ReadVpm 0 ≡ Some H10
+  pub read_last : broken (record set_up { rows_left = 1 }) mine ReadVpm 0 ≡ None
   pub write : broken set_up mine WriteVpm 0 ≡ None
   pub write_busy : broken set_up (record mine { stores = in_row 63 }) WriteVpm 0 ≡ Some H10
   pub write_unset : broken no_setups (record mine { stores = in_row 0 }) WriteVpm 0 ≡ Some H15
   pub unlock_busy : broken set_up (record mine { stores = in_row 1 }) Unlock 0 ≡ Some H11
+  pub unlock_loading : broken set_up (record mine { loads = in_row 1 }) Unlock 0 ≡ Some H11
   pub start_busy : broken set_up (record mine { loads = in_row 1 }) LoadAddr 1 ≡ Some H11
   pub start_beside : broken set_up (record mine { loads = in_row 1 }) StoreAddr 256 ≡ None
   pub start : broken set_up mine LoadAddr 312 ≡ None
@@ -78,6 +80,8 @@ pub record KnownRules : Type 0 where
   pub start_past : broken set_up mine StoreAddr 380 ≡ Some H12
   pub start_in_two : broken set_up mine StoreAddr 316 ≡ Some H12
   pub start_unset : broken no_setups mine LoadAddr 1 ≡ Some H15
+  pub store_unset : broken no_setups mine StoreAddr 1 ≡ Some H15
+  pub rows_before_last : broken (record set_up { rows_left = 1 }) mine ReadSet (rows_word 0 1) ≡ Some H16
   pub rows_again : broken set_up mine ReadSet (rows_word 0 1) ≡ Some H16
   pub rows : broken (record set_up { rows_left = 0 }) mine ReadSet (rows_word 0 1) ≡ None
   pub load_while_rows : broken set_up mine ReadSet (load_word two_words) ≡ None
@@ -116,3 +120,41 @@ pub record KnownEffects : Type 0 where
   pub put_byte : with_part 8 1 287454020 171 ≡ 287484740
   pub little_end : number_at 4 (1 ∷ 2 ∷ 3 ∷ 4 ∷ []) 0 ≡ 67305985
   pub little_end_out : bytes_of 2 513 ≡ 1 ∷ 2 ∷ []
+
+-- what QPU 2 leaves shared after an access with this value
+abbrev pub shared_after : Ports → Shared → Access → ℕ → Shared
+shared_after p s a value = share (demand here p (Some a) value (7 ∷ 8 ∷ [])) 2 s
+
+abbrev pub first_word : Element
+first_word = record { address = 256; size = 4; row = 9; col = 0; low = 0 }
+
+abbrev pub second_word : Element
+second_word = record { address = 260; size = 4; row = 9; col = 1; low = 0 }
+
+-- the high half of the word in column 1 of row 0, at address 1
+abbrev pub half : Element
+half = record { address = 1; size = 2; row = 0; col = 1; low = 16 }
+
+abbrev pub one_row : List ℕ → Shared
+one_row words = record mine { vpm = words ∷ [] }
+
+-- what is shared after an access, and after a transfer that is moved whole
+pub record KnownShares : Type 0 where
+  pub lock : shared_after set_up (owned_by None) Lock 0 ≡ mine
+  pub unlock : shared_after set_up mine Unlock 0 ≡ owned_by None
+  pub start_load : shared_after set_up mine LoadAddr 256 ≡ record mine { loads = first_word ∷ second_word ∷ [] }
+  pub start_store : shared_after set_up mine StoreAddr 256 ≡ record mine { stores = first_word ∷ second_word ∷ [] }
+  pub write :
+      shared_after (record set_up { write_row = Some 1 }) (record mine { vpm = [] ∷ [] ∷ [] ∷ [] }) WriteVpm 7
+      ≡ record mine { vpm = [] ∷ (7 ∷ 8 ∷ []) ∷ [] ∷ [] }
+  pub read : shared_after set_up mine ReadVpm 0 ≡ mine
+  pub uniform : shared_after set_up mine Uniform 0 ≡ mine
+  pub set : shared_after set_up mine WriteSet (row_word 63) ≡ mine
+  pub wait : shared_after set_up mine WaitStore 0 ≡ mine
+  pub load_whole :
+      at_once (StartLoad [] None) [] (record (one_row (4 ∷ 5 ∷ 6 ∷ [])) { loads = half ∷ [] }) (9 ∷ 1 ∷ 2 ∷ 9 ∷ [])
+      ≡ record { shared = one_row (4 ∷ 33619973 ∷ 6 ∷ []); memory = 9 ∷ 1 ∷ 2 ∷ 9 ∷ [] }
+  pub store_whole :
+      at_once (StartStore [] None) [] (record (one_row (4 ∷ 33619973 ∷ 6 ∷ [])) { stores = half ∷ [] }) (9 ∷ 8 ∷ 7 ∷ 9 ∷ [])
+      ≡ record { shared = one_row (4 ∷ 33619973 ∷ 6 ∷ []); memory = 9 ∷ 1 ∷ 2 ∷ 9 ∷ [] }
+  pub acquired : at_once Take ((3 ∷ []) ∷ []) (one_row (4 ∷ [])) (9 ∷ []) ≡ record { shared = one_row (3 ∷ []); memory = 9 ∷ [] }

@@ -1,5 +1,5 @@
 -- What shows that the definitions fit together.
-use Rattle.std.specs.Prelude.{◌≡◌, ℕ, ◌+◌, ◌*◌, ◌/◌, ◌%◌, ◌^◌, ◌<◌, ◌≤◌, List, [], Bool, true, false, Option, Some, None, length, get_or}
+use Rattle.std.specs.Prelude.{◌≡◌, ◌≢◌, ℕ, ◌+◌, ◌*◌, ◌/◌, ◌%◌, ◌^◌, ◌<◌, ◌≤◌, List, [], Bool, true, false, Option, Some, None, length, get_or}
 use Rattle.vpm_words.specs.Piece.{Piece, IsTransfer, is_mode}
 use Rattle.vpm_words.specs.Elements.{size_of, low_of, elements_of}
 use Rattle.vpm_words.specs.Moves.{part_of, with_part, number_at, bytes_of, put_bytes, cell, load_element, store_element}
@@ -96,3 +96,14 @@ VpmKept =
     (vpm : List (List ℕ)) → IsVpm vpm
     → ((y : Option ℕ) (words : List ℕ) → length words ≡ 16 → ((i : ℕ) → get_or words i 0 < 2 ^ 32) → IsVpm (put_row y words vpm))
     × ((mode : ℕ) (e : Element) (memory : List ℕ) → is_mode mode ≡ true → e.size ≡ size_of mode → e.low ≡ low_of mode → ((k : ℕ) → get_or memory k 0 < 256) → IsVpm (load_element e memory vpm))
+
+-- a write of a row changes that row alone, and a load of an element that word alone
+abbrev pub OthersStay : Type 0
+OthersStay =
+    (vpm : List (List ℕ))
+    → ((row : ℕ) (words : List ℕ) → row < length vpm → get_or (put_row (Some row) words vpm) row [] ≡ words)
+    × ((row y : ℕ) (words : List ℕ) → y ≢ row → get_or (put_row (Some row) words vpm) y [] ≡ get_or vpm y [])
+    × ((e : Element) (memory : List ℕ) → e.row < length vpm → e.col < length (get_or vpm e.row [])
+    → cell (load_element e memory vpm) e.row e.col ≡ with_part e.low e.size (cell vpm e.row e.col) (number_at e.size memory e.address))
+    × ((e : Element) (memory : List ℕ) (y : ℕ) → y ≢ e.row → get_or (load_element e memory vpm) y [] ≡ get_or vpm y [])
+    × ((e : Element) (memory : List ℕ) (y x : ℕ) → x ≢ e.col → cell (load_element e memory vpm) y x ≡ cell vpm y x)

@@ -1,7 +1,7 @@
 //! Laws of the definitions. Each is a call that does nothing, and its contract is the law.
 
-ghost use Rattle.vpm_words.specs.Cases.{KnownRules, KnownStalls, KnownEffects};
-ghost use Rattle.vpm_words.specs.Laws.{SplitAgrees, StallsAgree, LeastIsLeast, ElementsApart, PartReplaced, BytesPut, MovedAgain, VpmKept};
+ghost use Rattle.vpm_words.specs.Cases.{KnownRules, KnownStalls, KnownEffects, KnownShares};
+ghost use Rattle.vpm_words.specs.Laws.{SplitAgrees, StallsAgree, LeastIsLeast, ElementsApart, PartReplaced, BytesPut, MovedAgain, VpmKept, OthersStay};
 
 /// An access split into its demand on what is shared breaks the least of the rules that it breaks, each of them tested by itself.
 pub fn law_rules()
@@ -21,6 +21,7 @@ pub fn law_moves()
     ensures bytes { BytesPut }
     ensures again { MovedAgain }
     ensures vpm { VpmKept }
+    ensures others { OthersStay }
 {}
 
 /// Each restriction where it is broken and where it just isn't, the stalls, and what accesses do, by examples.
@@ -28,4 +29,5 @@ pub fn law_cases()
     ensures rules { KnownRules }
     ensures stalls { KnownStalls }
     ensures effects { KnownEffects }
+    ensures shares { KnownShares }
 {}

@@ -84,7 +84,8 @@ pub enum Owner {
 /// What the restrictions on an access look at, besides the access and the age of the read setup.
 ///
 /// `value` is element 0 of what is written to a setup or an address; `row_busy` speaks of the row that a read or write of the VPM
-/// touches; `fits` is false exactly where a transfer that has its setup is started outside the memory that it may move.
+/// touches; `fits` is false exactly where a transfer that has its setup is started at an address that isn't a multiple of the element's
+/// size, or outside the memory that it may move.
 #[derive(Clone, Copy, Debug, PartialEq, Eq)]
 pub struct Seen {
     pub uniforms: u32,
@@ -107,7 +108,7 @@ pub enum Rule {
     H0,
     /// The word reads a register of file A or B that the word before it wrote.
     H1,
-    /// The word rotates what isn't an accumulator, or one that the word before it wrote.
+    /// The word rotates, and a mul selector isn't 0 to 3 or names an accumulator that the word before it wrote.
     H2,
     /// The word rotates by r5, which the word before it wrote.
     H3,
@@ -127,7 +128,8 @@ pub enum Rule {
     H10,
     /// A transfer is started on an engine that has elements left, or the mutex is released while either has.
     H11,
-    /// A transfer is started whose address isn't a multiple of the element's size, or whose bytes don't lie in one buffer or the scratch.
+    /// A transfer that has its setup is started, and its address isn't a multiple of the element's size or its bytes don't lie in one
+    /// buffer or the scratch.
     H12,
     /// A read of the VPM has no row left, or comes fewer than three words after the read setup of rows.
     H13,

@@ -1,4 +1,4 @@
-use Rattle.vpm_words.proofs.CaseLaws.{known_rules, known_stalls, known_effects}
+use Rattle.vpm_words.proofs.CaseLaws.{known_rules, known_stalls, known_effects, known_shares}
 use Rattle.vpm_words.proofs.laws.law_cases.Goals as goal
 
 pub returns-clause-rules : goal.returns-clause-rules
@@ -9,3 +9,6 @@ returns-clause-stalls c = known_stalls
 
 pub returns-clause-effects : goal.returns-clause-effects
 returns-clause-effects c = known_effects
+
+pub returns-clause-shares : goal.returns-clause-shares
+returns-clause-shares c = known_shares

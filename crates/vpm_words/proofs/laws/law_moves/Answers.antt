@@ -1,4 +1,4 @@
-use Rattle.vpm_words.proofs.MoveLaws.{part_replaced, bytes_put, moved_again, vpm_kept}
+use Rattle.vpm_words.proofs.MoveLaws.{part_replaced, bytes_put, moved_again, vpm_kept, others_stay}
 use Rattle.vpm_words.proofs.laws.law_moves.Goals as goal
 
 pub returns-clause-part : goal.returns-clause-part
@@ -12,3 +12,6 @@ returns-clause-again c = λ mode e vpm other memory m s l a r k. moved_again mod
 
 pub returns-clause-vpm : goal.returns-clause-vpm
 returns-clause-vpm c = λ vpm h. vpm_kept vpm h
+
+pub returns-clause-others : goal.returns-clause-others
+returns-clause-others c = others_stay
