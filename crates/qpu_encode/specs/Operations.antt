@@ -1,7 +1,8 @@
 -- What the QPU's operations mean on one element, over the operations on words of q_lane (Broadcom, VideoCore IV 3D Architecture Reference
 -- Guide, QPU chapter: ALU instructions, condition codes, pack and unpack, small immediates). This project's own are Mul32, MulHs and
 -- MulHu, and that clz of 0 is 32. A word is a number from 0 to 2^32 - 1.
-use Rattle.std.specs.Prelude.{ℕ, ◌+◌, ◌-◌, ◌*◌, ◌/◌, ◌%◌, ◌^◌, Bool, true, false, not, ◌&&◌, ◌==◌, nat_le, if◌then◌else◌, min}
+use Rattle.std.specs.Prelude.{ℕ, ◌+◌, ◌-◌, ◌*◌, ◌/◌, ◌%◌, ◌^◌, Bool, true, false, not, ◌&&◌, ◌==◌, nat_le, if◌then◌else◌, min, List}
+use Rattle.std.specs.List.{list_all, list_any}
 use Rattle.q_lane.specs.declared.kinds.Scalar.TheVariants.{Short}
 use Rattle.q_lane.specs.declared.operations.BinOp.TheVariants as word_op
 use Rattle.q_lane.specs.declared.operations.UnOp.TheVariants as one_word
@@ -10,6 +11,8 @@ use Rattle.qpu_encode.specs.declared.form.AddOp.{AddOp}
 use Rattle.qpu_encode.specs.declared.form.AddOp.TheVariants as add_op
 use Rattle.qpu_encode.specs.declared.form.MulOp.{MulOp}
 use Rattle.qpu_encode.specs.declared.form.MulOp.TheVariants as mul_op
+use Rattle.qpu_encode.specs.declared.form.BraCond.{BraCond}
+use Rattle.qpu_encode.specs.declared.form.BraCond.TheVariants as bra
 use Rattle.qpu_encode.specs.declared.form.Cond.{Cond}
 use Rattle.qpu_encode.specs.declared.form.Cond.TheVariants.{Never, Always, Zs, Zc, Ns, Nc}
 
@@ -59,6 +62,18 @@ passes Zs zero neg = zero
 passes Zc zero neg = not zero
 passes Ns zero neg = neg
 passes Nc zero neg = not neg
+
+-- a branch with this condition is taken, where the flags Z and N of all elements are these
+unfoldable pub holds : BraCond → List Bool → List Bool → Bool
+holds bra.AllZ zero neg = list_all (λ z. z) zero
+holds bra.AllNz zero neg = list_all (λ z. not z) zero
+holds bra.AnyZ zero neg = list_any (λ z. z) zero
+holds bra.AnyNz zero neg = list_any (λ z. not z) zero
+holds bra.AllN zero neg = list_all (λ n. n) neg
+holds bra.AllNn zero neg = list_all (λ n. not n) neg
+holds bra.AnyN zero neg = list_any (λ n. n) neg
+holds bra.AnyNn zero neg = list_any (λ n. not n) neg
+holds bra.Always zero neg = true
 
 -- the word that an unpack takes of one: the low or the high half with its sign, a byte, or all of it
 unfoldable pub unpacked : ℕ → ℕ → ℕ

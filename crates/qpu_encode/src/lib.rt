@@ -12,7 +12,7 @@ mod words;
 pub use field::Field;
 pub use form::{AddOp, AddPart, BraCond, Cond, Form, Head, MulOp, MulPart};
 pub use instr::Instr;
-pub use operations::{add_value, mul_value, passes, rotation, small_word, unpacked};
+pub use operations::{add_value, holds, mul_value, passes, rotation, small_word, unpacked};
 pub use words::{decode, encode};
 
 #[cfg(test)]

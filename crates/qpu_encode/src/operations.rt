@@ -1,9 +1,10 @@
 //! What the operations mean on one element.
 
-ghost use Rattle.std.specs.Prelude.{◌≡◌, ◌<◌, ◌*◌, ◌^◌};
-ghost use Rattle.qpu_encode.specs.Operations.{add_value, mul_value, passes, unpacked, small_word, rotation, turned, byte, lesser_byte};
+ghost use Rattle.std.specs.Prelude.{◌≡◌, ◌<◌, ◌*◌, ◌^◌, not};
+ghost use Rattle.std.specs.List.{list_all, list_any};
+ghost use Rattle.qpu_encode.specs.Operations.{add_value, mul_value, passes, holds, unpacked, small_word, rotation, turned, byte, lesser_byte};
 
-use crate::form::{AddOp, Cond, MulOp};
+use crate::form::{AddOp, BraCond, Cond, MulOp};
 use q_lane::{BinOp, Scalar, UnOp, apply, apply_one};
 
 fn turn(a: u32, n: u32) -> u32
@@ -85,6 +86,48 @@ pub fn passes(cond: Cond, zero: bool, neg: bool) -> bool
         Cond::Zc => !zero,
         Cond::Ns => neg,
         Cond::Nc => !neg,
+    }
+}
+
+fn all_set(flags: &[bool; 16]) -> bool
+    ensures { result ≡ list_all (λ b. b) flags.now }
+{
+    flags.iter().all(|b| *b)
+}
+
+fn all_clear(flags: &[bool; 16]) -> bool
+    ensures { result ≡ list_all (λ b. not b) flags.now }
+{
+    flags.iter().all(|b| !*b)
+}
+
+fn any_set(flags: &[bool; 16]) -> bool
+    ensures { result ≡ list_any (λ b. b) flags.now }
+{
+    flags.iter().any(|b| *b)
+}
+
+fn any_clear(flags: &[bool; 16]) -> bool
+    ensures { result ≡ list_any (λ b. not b) flags.now }
+{
+    flags.iter().any(|b| !*b)
+}
+
+/// Whether a branch with this condition is taken, where the flags Z and N of the sixteen elements are these.
+#[tactic(auto, unfolding(crate::specs::Operations::holds))]
+pub fn holds(cond: BraCond, zero: &[bool; 16], neg: &[bool; 16]) -> bool
+    ensures { result ≡ holds cond zero.now neg.now }
+{
+    match cond {
+        BraCond::AllZ => all_set(zero),
+        BraCond::AllNz => all_clear(zero),
+        BraCond::AnyZ => any_set(zero),
+        BraCond::AnyNz => any_clear(zero),
+        BraCond::AllN => all_set(neg),
+        BraCond::AllNn => all_clear(neg),
+        BraCond::AnyN => any_set(neg),
+        BraCond::AnyNn => any_clear(neg),
+        BraCond::Always => true,
     }
 }
 

@@ -1,6 +1,6 @@
 use super::{
     AddOp, AddPart, BraCond, Cond, Field, Form, Head, MulOp, MulPart, add_value, decode, encode,
-    mul_value, passes, rotation, small_word, unpacked,
+    holds, mul_value, passes, rotation, small_word, unpacked,
 };
 
 const END: u64 = 0x3000_09E7_009E_7000;
@@ -721,6 +721,39 @@ fn conditions(rt: HostRuntime) {
             passes(cond, true, true),
         ];
         assert_eq!(rt; is, wanted, "{cond:?}");
+    }
+}
+
+// The four columns: every element has the flag, none has, the first alone has, all but the last have.
+#[test]
+fn branch_conditions(rt: HostRuntime) {
+    let all = [true; 16];
+    let none = [false; 16];
+    let mut first = none;
+    first[0] = true;
+    let mut most = all;
+    most[15] = false;
+    for (of_z, of_n, wanted) in [
+        (BraCond::AllZ, BraCond::AllN, [true, false, false, false]),
+        (BraCond::AllNz, BraCond::AllNn, [false, true, false, false]),
+        (BraCond::AnyZ, BraCond::AnyN, [true, false, true, true]),
+        (BraCond::AnyNz, BraCond::AnyNn, [false, true, true, true]),
+        (BraCond::Always, BraCond::Always, [true; 4]),
+    ] {
+        let by_z = [
+            holds(of_z, &all, &none),
+            holds(of_z, &none, &all),
+            holds(of_z, &first, &all),
+            holds(of_z, &most, &none),
+        ];
+        assert_eq!(rt; by_z, wanted, "{of_z:?}");
+        let by_n = [
+            holds(of_n, &none, &all),
+            holds(of_n, &all, &none),
+            holds(of_n, &all, &first),
+            holds(of_n, &none, &most),
+        ];
+        assert_eq!(rt; by_n, wanted, "{of_n:?}");
     }
 }
 
