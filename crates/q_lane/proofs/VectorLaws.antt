@@ -2,7 +2,7 @@
 use Rattle.std.proofs.Common.{◌≡◌, ℕ, ◌<◌, List, length, get_or, if◌then◌else◌, ◌==◌, refl, ◌∙◌, arith}
 use Rattle.std.proofs.lemmas.List.FromFn.{length-map-range_with_len, get_or-map-range_with_len, fill_by_all}
 use Rattle.q_lane.specs.declared.operations.BinOp.{BinOp}
-use Rattle.q_lane.specs.Words.{applied}
+use Rattle.q_lane.specs.Numbers.{applied}
 use Rattle.q_lane.specs.Vectors.{lanes, lane, mapped, selected}
 
 pub length-lanes : {A : Type 0} (n : ℕ) (f : ℕ → A) → length (lanes n f) ≡ n

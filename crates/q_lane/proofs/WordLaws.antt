@@ -12,7 +12,7 @@ use Rattle.q_lane.specs.declared.operations.BinOp.{BinOp}
 use Rattle.q_lane.specs.declared.operations.BinOp.TheVariants.{Add, Sub, Mul, MulHi, Div, Rem, And, Or, Xor, Shl, Shr, Sar, Min, Max, Less, Equal, Mul24}
 use Rattle.q_lane.specs.declared.operations.UnOp.{UnOp}
 use Rattle.q_lane.specs.declared.operations.UnOp.TheVariants.{Not, Neg, Clz, Popcount, Narrow}
-use Rattle.q_lane.specs.Words.{signed, word_of, high_product, quotient, remainder, is_less, flag, applied, width, extended, narrowed, applied_one}
+use Rattle.q_lane.specs.Numbers.{signed, word_of, high_product, quotient, remainder, is_less, flag, applied, width, extended, narrowed, applied_one}
 use Rattle.q_lane.specs.Vectors.{lane, mapped, selected}
 use Rattle.q_lane.proofs.VectorLaws.{get_or-lanes, lanes-same}
 

@@ -5,7 +5,7 @@ use Rattle.q_lane.specs.declared.operations.BinOp.{BinOp}
 use Rattle.q_lane.specs.declared.operations.BinOp.TheVariants.{Xor, Min, Max, Less}
 use Rattle.q_lane.specs.declared.operations.UnOp.{UnOp}
 use Rattle.q_lane.specs.declared.operations.UnOp.TheVariants.{Narrow}
-use Rattle.q_lane.specs.Words.{applied, applied_one, width}
+use Rattle.q_lane.specs.Numbers.{applied, applied_one, width}
 use Rattle.q_lane.specs.Vectors.{lanes, lane, mapped, selected, rotated}
 
 -- an operation on two words gives a word

@@ -2,7 +2,7 @@
 use Rattle.std.specs.Prelude.{ℕ, ◌+◌, ◌-◌, ◌%◌, List, map, get_or, ◌==◌, if◌then◌else◌}
 use Rattle.std.specs.List.{range_with_len}
 use Rattle.q_lane.specs.declared.operations.BinOp.{BinOp}
-use Rattle.q_lane.specs.Words.{applied}
+use Rattle.q_lane.specs.Numbers.{applied}
 
 -- the list of n elements with element i at i
 unfoldable pub lanes : {A : Type 0} → ℕ → (ℕ → A) → List A

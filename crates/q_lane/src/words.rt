@@ -1,12 +1,12 @@
 //! What an operation on words gives.
 
 ghost use Rattle.std.specs.Prelude.{◌≡◌, ◌<◌, ◌^◌, ◌*ℤ◌, int_div, int_rem};
-ghost use Rattle.q_lane.specs.Words.{applied, applied_one, signed, word_of, shifted_down, high_product, quotient, remainder, is_less, extended, narrowed};
+ghost use Rattle.q_lane.specs.Numbers.{applied, applied_one, signed, word_of, shifted_down, high_product, quotient, remainder, is_less, extended, narrowed};
 
 use crate::kinds::Scalar;
 use crate::operations::{BinOp, UnOp};
 
-#[tactic(auto, unfolding(crate::specs::Words::high_product))]
+#[tactic(auto, unfolding(crate::specs::Numbers::high_product))]
 fn multiply_high(signed: bool, a: u32, b: u32) -> u32
     ensures { result ≡ high_product signed a b }
 {
@@ -24,7 +24,7 @@ fn multiply_high_signed(a: u32, b: u32) -> u32
     (product.cast_unsigned() >> 32) as u32
 }
 
-#[tactic(auto, unfolding(crate::specs::Words::quotient))]
+#[tactic(auto, unfolding(crate::specs::Numbers::quotient))]
 fn divide(signed: bool, a: u32, b: u32) -> u32
     ensures { result ≡ quotient signed a b }
 {
@@ -43,7 +43,7 @@ fn divide_signed(a: u32, b: u32) -> u32
         .cast_unsigned()
 }
 
-#[tactic(auto, unfolding(crate::specs::Words::remainder))]
+#[tactic(auto, unfolding(crate::specs::Numbers::remainder))]
 fn rest(signed: bool, a: u32, b: u32) -> u32
     ensures { result ≡ remainder signed a b }
 {
@@ -69,7 +69,7 @@ fn shift_signed(a: u32, n: u32) -> u32
     if a < 0x8000_0000 { a >> n } else { !(!a >> n) }
 }
 
-#[tactic(auto, unfolding(crate::specs::Words::is_less))]
+#[tactic(auto, unfolding(crate::specs::Numbers::is_less))]
 fn less(signed: bool, a: u32, b: u32) -> bool
     ensures { result ≡ is_less signed a b }
 {
@@ -94,7 +94,7 @@ fn extend_half(low: u32) -> u32
     if low < 0x8000 { low } else { low + 0xffff_0000 }
 }
 
-#[tactic(auto, unfolding(crate::specs::Words::narrowed))]
+#[tactic(auto, unfolding(crate::specs::Numbers::narrowed))]
 fn narrow(scalar: Scalar, a: u32) -> u32
     ensures { result ≡ narrowed scalar a }
 {
@@ -109,7 +109,7 @@ fn narrow(scalar: Scalar, a: u32) -> u32
 }
 
 /// The word that an operation gives of two words.
-#[tactic(auto, unfolding(crate::specs::Words::applied))]
+#[tactic(auto, unfolding(crate::specs::Numbers::applied))]
 pub fn apply(op: BinOp, a: u32, b: u32) -> u32
     ensures { result ≡ applied op a b }
 {
@@ -135,7 +135,7 @@ pub fn apply(op: BinOp, a: u32, b: u32) -> u32
 }
 
 /// The word that an operation gives of one word.
-#[tactic(auto, unfolding(crate::specs::Words::applied_one))]
+#[tactic(auto, unfolding(crate::specs::Numbers::applied_one))]
 pub fn apply_one(op: UnOp, a: u32) -> u32
     ensures { result ≡ applied_one op a }
 {

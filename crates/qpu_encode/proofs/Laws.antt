@@ -2,7 +2,7 @@
 use Rattle.std.specs.Prelude.{◌≡◌, ℕ, ◌+◌, ◌/◌, ◌%◌, ◌^◌, ◌<◌, List, [], ◌∷◌, refl}
 use Rattle.std.proofs.Common.{arith, sym, ap, subst, ◌∙◌}
 use Rattle.std.proofs.lemmas.Nat.{shr-shr, shr_high, mod_low, shr_split, shr_below}
-use Rattle.qpu_encode.specs.Fields.{FitEach, join, fields_from, bits_of}
+use Rattle.qpu_encode.specs.WordFields.{FitEach, join, fields_from, bits_of}
 
 -- the fields of a joined number are its parts
 pub fields_of_join : (ws vs : List ℕ) → FitEach ws vs → (lo n : ℕ) → n / 2 ^ lo ≡ join ws vs → fields_from lo ws n ≡ vs

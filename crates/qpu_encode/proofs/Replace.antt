@@ -3,7 +3,7 @@ use Rattle.std.specs.Prelude.{◌≡◌, ℕ, ◌+◌, ◌-◌, ◌*◌, ◌/◌
 use Rattle.std.proofs.Common.{arith, sym, ap, subst, ◌∙◌}
 use Rattle.std.proofs.lemmas.Nat.{shr-shr, shr_high, mod_low, shr_split, pow_pos, shr_below, pow-add, mul-add-lt}
 use Rattle.std.proofs.Math.Nat.{mod-lt}
-use Rattle.qpu_encode.specs.Fields.{field}
+use Rattle.qpu_encode.specs.WordFields.{field}
 
 -- the number with the field of width w at bit lo replaced by v
 abbrev pub replaced : ℕ → ℕ → ℕ → ℕ → ℕ

@@ -1,4 +1,3 @@
-pub mod Fields
 pub mod Codes
-pub mod Forms
+pub mod WordFields
 pub mod Operations

@@ -6,7 +6,7 @@ use Rattle.std.specs.List.{list_all, list_any}
 use Rattle.q_lane.specs.declared.kinds.Scalar.TheVariants.{Short}
 use Rattle.q_lane.specs.declared.operations.BinOp.TheVariants as word_op
 use Rattle.q_lane.specs.declared.operations.UnOp.TheVariants as one_word
-use Rattle.q_lane.specs.Words.{applied, applied_one, extended}
+use Rattle.q_lane.specs.Numbers.{applied, applied_one, extended}
 use Rattle.qpu_encode.specs.declared.form.AddOp.{AddOp}
 use Rattle.qpu_encode.specs.declared.form.AddOp.TheVariants as add_op
 use Rattle.qpu_encode.specs.declared.form.MulOp.{MulOp}

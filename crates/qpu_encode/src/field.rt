@@ -1,7 +1,7 @@
 //! One field of a word.
 
 ghost use Rattle.std.specs.Prelude.{◌≡◌, ◌+◌, ◌-◌, ◌*◌, ◌/◌, ◌%◌, ◌^◌, ◌<◌, ◌≤◌};
-ghost use Rattle.qpu_encode.specs.Fields.{field};
+ghost use Rattle.qpu_encode.specs.WordFields.{field};
 
 /// The field of `W` bits whose lowest bit is bit `LO`.
 pub struct Field<const LO: u32, const W: u32>;

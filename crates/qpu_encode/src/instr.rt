@@ -12,7 +12,7 @@ pub struct Instr {
 impl Model for Instr {
     ghost use Rattle.std.specs.Prelude.{◌≡◌, true};
     ghost use Rattle.qpu_encode.specs.declared.form.Form.{Form};
-    ghost use Rattle.qpu_encode.specs.Forms.{is_in_profile};
+    ghost use Rattle.qpu_encode.specs.WordFields.{is_in_profile};
 
     ghost Value = { Form };
 

@@ -2,7 +2,7 @@
 
 ghost use Rattle.std.specs.Prelude.{◌≡◌, not, slice_index};
 ghost use Rattle.qpu_encode.specs.Codes.{add_code, mul_code, cond_code, head_code};
-ghost use Rattle.qpu_encode.specs.Forms.{is_selector, is_port, is_acc, is_target, is_source, is_part, is_small, is_unpack, is_flagged, is_in_profile, is_distance};
+ghost use Rattle.qpu_encode.specs.WordFields.{is_selector, is_port, is_acc, is_target, is_source, is_part, is_small, is_unpack, is_flagged, is_in_profile, is_distance};
 
 use crate::codes::{add_code_of, cond_code_of, head_code_of, mul_code_of};
 use crate::form::Form;
@@ -25,21 +25,21 @@ fn acc(dst: u8) -> bool
     32 <= dst && dst <= 35
 }
 
-#[tactic(auto, unfolding(crate::specs::Forms::is_target))]
+#[tactic(auto, unfolding(crate::specs::WordFields::is_target))]
 fn target(through_b: bool, dst: u8, cond: u8) -> bool
     ensures { result ≡ is_target through_b dst cond }
 {
     dst <= 35 || dst == 39 || ((port(dst) || (dst == 37 && through_b)) && cond == 1)
 }
 
-#[tactic(auto, unfolding(crate::specs::Forms::is_source))]
+#[tactic(auto, unfolding(crate::specs::WordFields::is_source))]
 fn source(x: u8) -> bool
     ensures { result ≡ is_source x }
 {
     x <= 32 || (x == 38 || (x == 39 || (x == 48 || (x == 50 || x == 51))))
 }
 
-#[tactic(auto, unfolding(crate::specs::Forms::is_part))]
+#[tactic(auto, unfolding(crate::specs::WordFields::is_part))]
 fn part(op: u8, cond: u8, dst: u8, a: u8, b: u8) -> bool
     ensures { result ≡ is_part op cond dst a b }
 {
@@ -50,7 +50,7 @@ fn part(op: u8, cond: u8, dst: u8, a: u8, b: u8) -> bool
     }
 }
 
-#[tactic(auto, unfolding(crate::specs::Forms::is_small))]
+#[tactic(auto, unfolding(crate::specs::WordFields::is_small))]
 fn small_or_source(small: bool, rb: u8, op_mul: u8, flags: bool, selectors: [u8; 4]) -> bool
     ensures { result ≡ is_small small rb op_mul flags (slice_index selectors 0) (slice_index selectors 1) (slice_index selectors 2) (slice_index selectors 3) }
 {
@@ -65,7 +65,7 @@ fn small_or_source(small: bool, rb: u8, op_mul: u8, flags: bool, selectors: [u8;
     }
 }
 
-#[tactic(auto, unfolding(crate::specs::Forms::is_unpack))]
+#[tactic(auto, unfolding(crate::specs::WordFields::is_unpack))]
 fn unpacks(unpack: u8, op_add: u8, ra: u8, selectors: [u8; 4]) -> bool
     ensures { result ≡ is_unpack unpack op_add (slice_index selectors 0) (slice_index selectors 1) ra (slice_index selectors 2) (slice_index selectors 3) }
 {
@@ -75,7 +75,7 @@ fn unpacks(unpack: u8, op_add: u8, ra: u8, selectors: [u8; 4]) -> bool
             && ((add_a == 6 && add_b == 6) && (ra <= 31 && (!(mul_a == 6) && !(mul_b == 6)))))
 }
 
-#[tactic(auto, unfolding(crate::specs::Forms::is_flagged))]
+#[tactic(auto, unfolding(crate::specs::WordFields::is_flagged))]
 fn flagged(flags: bool, op_add: u8, cond_add: u8, op_mul: u8, cond_mul: u8) -> bool
     ensures { result ≡ is_flagged flags op_add cond_add op_mul cond_mul }
 {
@@ -87,7 +87,7 @@ fn flagged(flags: bool, op_add: u8, cond_add: u8, op_mul: u8, cond_mul: u8) -> b
         })
 }
 
-#[tactic(auto, unfolding(crate::specs::Forms::is_distance))]
+#[tactic(auto, unfolding(crate::specs::WordFields::is_distance))]
 fn distance(words: i32) -> bool
     ensures { result ≡ is_distance words }
 {
@@ -95,7 +95,7 @@ fn distance(words: i32) -> bool
 }
 
 /// The form is in the profile.
-#[tactic(auto, unfolding(crate::specs::Forms::is_in_profile))]
+#[tactic(auto, unfolding(crate::specs::WordFields::is_in_profile))]
 pub fn is_fine(form: &Form) -> bool
     ensures { result ≡ is_in_profile form.now }
 {

@@ -1,8 +1,8 @@
 //! Words both ways.
 
 ghost use Rattle.std.specs.Prelude.{get_or, false, true, ◌≡◌, ◌≢◌, ◌≤◌, ◌<◌, ◌+◌, ◌-◌, ◌*◌, ◌^◌, Some, IfSome, IfNone};
-ghost use Rattle.qpu_encode.specs.Fields.{FitEach, field, fields_from, join};
-ghost use Rattle.qpu_encode.specs.Forms.{form_of, word_of, alu_from, ldi_from, bra_from, bra_widths, bra_values, distance_of, distance_bits, is_distance, alu_widths, ldi_widths, alu_values, ldi_values, bit, is_in_profile};
+ghost use Rattle.qpu_encode.specs.WordFields.{FitEach, field, fields_from, join};
+ghost use Rattle.qpu_encode.specs.WordFields.{form_of, word_of, alu_from, ldi_from, bra_from, bra_widths, bra_values, distance_of, distance_bits, is_distance, alu_widths, ldi_widths, alu_values, ldi_values, bit, is_in_profile};
 ghost use Rattle.qpu_encode.specs.declared.form.Form.{Form};
 
 use crate::codes::{
@@ -23,7 +23,7 @@ fn byte<const LO: u32, const W: u32>(word: u64) -> u8
     Field::<LO, W>::get(word) as u8
 }
 
-#[tactic(auto, unfolding(crate::specs::Forms::alu_from))]
+#[tactic(auto, unfolding(crate::specs::WordFields::alu_from))]
 fn alu(word: u64) -> Option<Instr>
     ensures { result ≡ alu_from (fields_from 0 alu_widths word) }
 {
@@ -63,7 +63,7 @@ fn alu(word: u64) -> Option<Instr>
     }
 }
 
-#[tactic(auto, unfolding(crate::specs::Forms::ldi_from))]
+#[tactic(auto, unfolding(crate::specs::WordFields::ldi_from))]
 fn ldi(word: u64) -> Option<Instr>
     ensures { result ≡ ldi_from (fields_from 0 ldi_widths word) }
 {
@@ -86,7 +86,7 @@ fn ldi(word: u64) -> Option<Instr>
     }
 }
 
-#[tactic(auto, unfolding(crate::specs::Forms::distance_of))]
+#[tactic(auto, unfolding(crate::specs::WordFields::distance_of))]
 fn distance(bits: u64) -> i32
     requires { bits < 2 ^ 29 }
     ensures { result ≡ distance_of bits }
@@ -98,7 +98,7 @@ fn distance(bits: u64) -> i32
     }
 }
 
-#[tactic(auto, unfolding(crate::specs::Forms::distance_bits))]
+#[tactic(auto, unfolding(crate::specs::WordFields::distance_bits))]
 fn bits_of_words(words: i32) -> u64
     requires { is_distance words ≡ true }
     ensures bits { result ≡ distance_bits words }
@@ -108,7 +108,7 @@ fn bits_of_words(words: i32) -> u64
     if words < 0 { 0x2000_0000 - size } else { size }
 }
 
-#[tactic(auto, unfolding(crate::specs::Forms::bra_from))]
+#[tactic(auto, unfolding(crate::specs::WordFields::bra_from))]
 fn bra(word: u64) -> Option<Instr>
     ensures { result ≡ bra_from (fields_from 0 bra_widths word) }
 {
@@ -129,7 +129,7 @@ fn bra(word: u64) -> Option<Instr>
 }
 
 // The instruction of a word, by its fields.
-#[tactic(auto, unfolding(crate::specs::Forms::form_of))]
+#[tactic(auto, unfolding(crate::specs::WordFields::form_of))]
 fn decode_fields(word: u64) -> Option<Instr>
     ensures { result ≡ form_of word }
 {
@@ -238,7 +238,7 @@ fn bit_of(b: bool) -> u64
 }
 
 // The word of a form, by its fields.
-#[tactic(auto, unfolding(crate::specs::Forms::word_of))]
+#[tactic(auto, unfolding(crate::specs::WordFields::word_of))]
 fn encode_fields(form: &Form) -> u64
     requires { is_in_profile form.now ≡ true }
     ensures { result ≡ word_of form.now }

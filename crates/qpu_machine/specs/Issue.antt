@@ -7,7 +7,7 @@ use Rattle.qpu_encode.specs.declared.form.Head.TheVariants.{Plain, End, Small}
 use Rattle.qpu_encode.specs.declared.form.Form.{Form}
 use Rattle.qpu_encode.specs.declared.form.Form.TheVariants.{Alu, Ldi, Bra}
 use Rattle.qpu_encode.specs.Codes.{add_code, mul_code, cond_code, head_code}
-use Rattle.qpu_encode.specs.Forms.{form_of}
+use Rattle.qpu_encode.specs.WordFields.{form_of}
 use Rattle.vpm_words.specs.declared.state.Rule.{Rule}
 use Rattle.vpm_words.specs.declared.state.Rule.TheVariants.{H0}
 use Rattle.qpu_machine.specs.declared.state.Effect.{Effect}

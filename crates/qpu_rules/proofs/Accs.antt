@@ -1,7 +1,7 @@
 -- The accumulators of a word as bits.
 use Rattle.std.proofs.Common.{◌≡◌, ◌+◌, ◌*◌, Bool, true, false, refl}
 use Rattle.qpu_rules.specs.Uses.{bit, writes_acc, accs_written}
-use Rattle.qpu_rules.specs.Rules.{has_acc, AccsAreBits}
+use Rattle.qpu_rules.specs.Restrictions.{has_acc, AccsAreBits}
 
 bits_apart : (a b c d : Bool)
     → (has_acc (bit a + 2 * bit b + 4 * bit c + 8 * bit d) 0 ≡ a) × (has_acc (bit a + 2 * bit b + 4 * bit c + 8 * bit d) 1 ≡ b)

@@ -3,7 +3,7 @@ use Rattle.std.proofs.Common.{◌≡◌, ℕ, List, [], ◌∷◌, Bool, true, f
 use Rattle.std.specs.Prelude.{Option, Some, None, IfSome, IfNone}
 use Rattle.qpu_encode.specs.declared.form.Form.{Form}
 use Rattle.qpu_rules.specs.declared.recent.Recent.{Recent}
-use Rattle.qpu_rules.specs.Rules.{any, is_several, breaks, least_rule, least_of_access, least_of_accesses, IsLeastBroken, IsLawful}
+use Rattle.qpu_rules.specs.Restrictions.{any, is_several, breaks, least_rule, least_of_access, least_of_accesses, IsLeastBroken, IsLawful}
 use Rattle.qpu_rules.specs.Uses.{count_of}
 use Rattle.vpm_words.specs.Rules as access
 use Rattle.vpm_words.specs.Laws.{IsLeast, LeastIsLeast}

@@ -1,2 +1,2 @@
 pub mod Uses
-pub mod Rules
+pub mod Restrictions

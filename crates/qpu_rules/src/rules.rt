@@ -1,7 +1,7 @@
 //! The restrictions, each by a function of its own.
 
 ghost use Rattle.std.specs.Prelude.{◌≡◌, ◌<◌, IfSome, IfNone};
-ghost use Rattle.qpu_rules.specs.Rules.{is_same, has_acc, is_settled, breaks_h1, breaks_h2, breaks_h3, breaks_h4, breaks_h5, breaks_h6, breaks_h7, is_several, is_nothing, least_of_access, least_of_accesses, least_rule, IsLeastBroken, IsLawful};
+ghost use Rattle.qpu_rules.specs.Restrictions.{is_same, has_acc, is_settled, breaks_h1, breaks_h2, breaks_h3, breaks_h4, breaks_h5, breaks_h6, breaks_h7, is_several, is_nothing, least_of_access, least_of_accesses, least_rule, IsLeastBroken, IsLawful};
 ghost use Rattle.qpu_rules.specs.Uses.{accesses, count_of};
 ghost use Rattle.vpm_words.specs.Rules as on_access;
 
@@ -23,7 +23,7 @@ fn same(x: Option<u8>, y: Option<u8>) -> bool
     }
 }
 
-#[tactic(auto, unfolding(crate::specs::Rules::breaks_h1))]
+#[tactic(auto, unfolding(crate::specs::Restrictions::breaks_h1))]
 fn reads_fresh(form: &Form, recent: &Recent) -> bool
     ensures { result ≡ breaks_h1 form.now recent.now }
 {
@@ -47,7 +47,7 @@ fn settled(accs: u8, selector: u8) -> bool
     selector <= LAST_ACC && !has(accs, selector)
 }
 
-#[tactic(auto, unfolding(crate::specs::Rules::breaks_h2))]
+#[tactic(auto, unfolding(crate::specs::Restrictions::breaks_h2))]
 fn rotates_fresh(form: &Form, recent: &Recent) -> bool
     ensures { result ≡ breaks_h2 form.now recent.now }
 {
@@ -60,14 +60,14 @@ fn rotates_fresh(form: &Form, recent: &Recent) -> bool
     }
 }
 
-#[tactic(auto, unfolding(crate::specs::Rules::breaks_h3))]
+#[tactic(auto, unfolding(crate::specs::Restrictions::breaks_h3))]
 fn rotates_by_fresh(form: &Form, recent: &Recent) -> bool
     ensures { result ≡ breaks_h3 form.now recent.now }
 {
     turns_by_five(form) && recent.five
 }
 
-#[tactic(auto, unfolding(crate::specs::Rules::breaks_h4))]
+#[tactic(auto, unfolding(crate::specs::Restrictions::breaks_h4))]
 fn lacks_uniform(form: &Form, seen: &Seen) -> bool
     ensures { result ≡ breaks_h4 form.now seen.now }
 {
@@ -86,14 +86,14 @@ fn nothing(accesses: Accesses) -> bool
     matches!(accesses, Accesses::Nothing)
 }
 
-#[tactic(auto, unfolding(crate::specs::Rules::breaks_h6))]
+#[tactic(auto, unfolding(crate::specs::Restrictions::breaks_h6))]
 fn turns_off_late(form: &Form, recent: &Recent) -> bool
     ensures { result ≡ breaks_h6 form.now recent.now }
 {
     (branches(form) || ends(form)) && (recent.slots > 0 || recent.ending > 0)
 }
 
-#[tactic(auto, unfolding(crate::specs::Rules::breaks_h7))]
+#[tactic(auto, unfolding(crate::specs::Restrictions::breaks_h7))]
 fn works_at_end(form: &Form, recent: &Recent) -> bool
     ensures { result ≡ breaks_h7 form.now recent.now }
 {
@@ -232,7 +232,7 @@ fn broken_by_access(access: Access, age: u8, seen: &Seen) -> Option<Rule>
     }
 }
 
-#[tactic(auto, unfolding(crate::specs::Rules::least_of_accesses, crate::specs::Rules::least_of_access))]
+#[tactic(auto, unfolding(crate::specs::Restrictions::least_of_accesses, crate::specs::Restrictions::least_of_access))]
 fn broken_by_accesses(accesses: Accesses, age: u8, seen: &Seen) -> Option<Rule>
     ensures { result ≡ least_of_accesses accesses age seen.now }
 {

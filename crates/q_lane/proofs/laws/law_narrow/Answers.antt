@@ -1,4 +1,4 @@
-use Rattle.q_lane.specs.Words.{applied_one}
+use Rattle.q_lane.specs.Numbers.{applied_one}
 use Rattle.q_lane.proofs.WordLaws.{narrowed-narrowed}
 use Rattle.q_lane.proofs.laws.law_narrow.Goals as goal
 

@@ -3,7 +3,7 @@ use Rattle.std.specs.Prelude.{◌*ℤ◌, nat_abs}
 use mir.Val.{of_z, to_z, SFits}
 use lib.Signed.{mag}
 use Rattle.std.proofs.lemmas.Int.{to_z-of_z, of_z-to_z, ints, fits_signed_mul}
-use Rattle.q_lane.specs.Words.{word_of, shifted_down}
+use Rattle.q_lane.specs.Numbers.{word_of, shifted_down}
 use Rattle.q_lane.proofs.words.multiply_high_signed.Goals as goal
 
 -- the high half of the 64 bits of a number is its 2^32nd part mod 2^32

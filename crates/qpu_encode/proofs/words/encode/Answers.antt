@@ -1,6 +1,6 @@
 use Rattle.std.proofs.Common.{ap, ◌∙◌}
 use Rattle.std.specs.Prelude.{Some}
-use Rattle.qpu_encode.specs.Forms.{form_of}
+use Rattle.qpu_encode.specs.WordFields.{form_of}
 use Rattle.qpu_encode.proofs.RoundTrip.{form_complete}
 use Rattle.qpu_encode.proofs.words.encode.Goals as goal
 

@@ -2,7 +2,7 @@ use Rattle.std.proofs.Common.{rules, ◌≡◌, true, ℤ, w32}
 use Rattle.std.proofs.lemmas.Int.{to_z-of_z}
 use Rattle.qpu_encode.specs.declared.form.BraCond.{BraCond}
 use Rattle.qpu_encode.specs.declared.form.Form.TheVariants.{Bra}
-use Rattle.qpu_encode.specs.Forms.{is_in_profile, is_distance}
+use Rattle.qpu_encode.specs.WordFields.{is_in_profile, is_distance}
 use Rattle.qpu_encode.proofs.RoundTrip.{alu_fits, ldi_fits}
 use Rattle.qpu_encode.proofs.words.encode_fields.Goals as goal
 

@@ -1,6 +1,6 @@
 use Rattle.std.proofs.Common.{sym, ◌∙◌, refl}
 use Rattle.qpu_rules.proofs.Chain.{first_true, first_false}
-use Rattle.qpu_rules.specs.Rules.{least_of_access}
+use Rattle.qpu_rules.specs.Restrictions.{least_of_access}
 use Rattle.qpu_rules.proofs.rules.broken_by_access.Goals as goal
 
 pub returns-then-misuses_mutex : goal.returns-then-misuses_mutex

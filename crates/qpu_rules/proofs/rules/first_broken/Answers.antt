@@ -1,6 +1,6 @@
 use Rattle.std.proofs.Common.{ap, ◌∙◌}
 use Rattle.qpu_rules.proofs.Chain.{is_least, none_of, some_of}
-use Rattle.qpu_rules.specs.Rules.{least_rule}
+use Rattle.qpu_rules.specs.Restrictions.{least_rule}
 use Rattle.qpu_rules.proofs.rules.first_broken.Goals as goal
 
 pub returns-clause-none : goal.returns-clause-none

@@ -1,6 +1,6 @@
 use Rattle.std.proofs.Common.{sym, ◌∙◌, ap}
 use Rattle.qpu_rules.proofs.Chain.{first_true, first_false, least_of_few}
-use Rattle.qpu_rules.specs.Rules.{breaks_h5, is_several, least_of_accesses, least_rule}
+use Rattle.qpu_rules.specs.Restrictions.{breaks_h5, is_several, least_of_accesses, least_rule}
 use Rattle.qpu_rules.proofs.rules.least.Goals as goal
 
 pub returns-then-reads_fresh : goal.returns-then-reads_fresh

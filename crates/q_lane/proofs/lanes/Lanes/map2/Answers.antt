@@ -1,5 +1,5 @@
 use Rattle.std.proofs.Common.{arith, ℕ}
-use Rattle.q_lane.specs.Words.{applied}
+use Rattle.q_lane.specs.Numbers.{applied}
 use Rattle.q_lane.specs.Vectors.{lane}
 use Rattle.q_lane.proofs.VectorLaws.{lanes-is}
 use Rattle.q_lane.proofs.lanes.Lanes.map2.Goals as goal

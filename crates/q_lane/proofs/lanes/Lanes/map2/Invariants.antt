@@ -1,5 +1,5 @@
 use Rattle.std.proofs.Common.{◌≡◌, ℕ, ◌<◌, length}
-use Rattle.q_lane.specs.Words.{applied}
+use Rattle.q_lane.specs.Numbers.{applied}
 use Rattle.q_lane.specs.Vectors.{lane}
 use Rattle.q_lane.proofs.lanes.Lanes.map2.Given as goal
 

@@ -1,7 +1,7 @@
 use Rattle.std.proofs.Common.{rules, arith, ◌≡◌, ◌+◌, ◌-◌, ◌*◌, ◌%◌, ◌^◌, ◌<◌, ◌≤◌, ◌/◌, ℕ}
 use Rattle.std.proofs.Math.Nat.{mod-lt}
 use Rattle.std.proofs.lemmas.Nat.{shl_whole, pow_pos}
-use Rattle.qpu_encode.specs.Fields.{field}
+use Rattle.qpu_encode.specs.WordFields.{field}
 use Rattle.qpu_encode.proofs.Replace.{replaced, replaced_here, replaced_below, replaced_above, replaced_fits}
 use Rattle.qpu_encode.proofs.field.Field.put.Goals as goal
 

@@ -1,6 +1,6 @@
--- Words and their typed forms (Broadcom, VideoCore IV 3D Architecture Reference Guide, QPU chapter: ALU instructions, load immediate
--- instructions, branch instructions).
-use Rattle.std.specs.Prelude.{ℤ, pos, negsuc, ◌-◌, ℕ, ◌^◌, List, [], ◌∷◌, Bool, true, false, not, ◌&&◌, ◌||◌, ◌==◌, nat_le, nat_lt, if◌then◌else◌}
+-- Words and their fields: which words are in the profile, and the typed form of each (Broadcom, VideoCore IV 3D Architecture Reference
+-- Guide, QPU chapter: ALU instructions, load immediate instructions, branch instructions).
+use Rattle.std.specs.Prelude.{ℤ, pos, negsuc, ◌-◌, ℕ, ◌^◌, List, [], ◌∷◌, Bool, true, false, not, ◌&&◌, ◌||◌, ◌==◌, nat_le, nat_lt, if◌then◌else◌, ◌+◌, ◌*◌, ◌/◌, ◌%◌, ◌<◌}
 use Rattle.std.specs.declared.option.Option.{Option}
 use Rattle.std.specs.declared.option.Option.TheVariants.{Some, None}
 use Rattle.qpu_encode.specs.declared.form.AddPart.{AddPart}
@@ -11,7 +11,37 @@ use Rattle.qpu_encode.specs.declared.form.Head.{Head}
 use Rattle.qpu_encode.specs.declared.form.Form.{Form}
 use Rattle.qpu_encode.specs.declared.form.Form.TheVariants.{Alu, Ldi, Bra}
 use Rattle.qpu_encode.specs.Codes.{add_code, mul_code, cond_code, head_code, bra_code, add_op_at, mul_op_at, cond_at, head_at, bra_at}
-use Rattle.qpu_encode.specs.Fields.{field, join, fields_from}
+
+-- ---- fields of a number, by div and mod
+
+-- the field of this width whose lowest bit is bit lo
+abbrev pub field : ℕ → ℕ → ℕ → ℕ
+field lo width word = word / 2 ^ lo % 2 ^ width
+
+-- the number whose fields from the low end on have these widths and values
+abbrev pub join : List ℕ → List ℕ → ℕ
+join [] vs = 0
+join (w ∷ ws) [] = 0
+join (w ∷ ws) (v ∷ vs) = join ws vs * 2 ^ w + v
+
+-- the fields of these widths of a number, one after the other from bit lo on
+abbrev pub fields_from : ℕ → List ℕ → ℕ → List ℕ
+fields_from lo [] word = []
+fields_from lo (w ∷ ws) word = field lo w word ∷ fields_from (lo + w) ws word
+
+-- how many bits fields of these widths have together
+abbrev pub bits_of : List ℕ → ℕ
+bits_of [] = 0
+bits_of (w ∷ ws) = w + bits_of ws
+
+-- there are as many values as widths, and each value fits its width
+abbrev pub FitEach : List ℕ → List ℕ → Type 0
+FitEach [] [] = Unit {0}
+FitEach [] (v ∷ vs) = ⊥
+FitEach (w ∷ ws) [] = ⊥
+FitEach (w ∷ ws) (v ∷ vs) = (v < 2 ^ w) × FitEach ws vs
+
+-- ---- forms
 
 -- the bit of a flag
 abbrev pub bit : Bool → ℕ
