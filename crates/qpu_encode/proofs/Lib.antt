@@ -1,3 +1,4 @@
-pub mod Laws
+pub mod JoinedFields
 pub mod Replace
 pub mod RoundTrip
+pub mod WordBounds

@@ -23,7 +23,7 @@ use Rattle.qpu_encode.specs.declared.form.Form.TheVariants.{Alu, Ldi, Bra}
 use Rattle.qpu_encode.specs.Codes.{with_code, add_code, mul_code, cond_code, head_code, add_ops, mul_ops, conds, heads, add_op_at, mul_op_at, cond_at, head_at, bra_code, bra_conds, bra_at}
 use Rattle.qpu_encode.specs.declared.form.BraCond.TheVariants as bra
 use Rattle.qpu_encode.specs.WordFields.{FitEach, field, join, fields_from}
-use Rattle.qpu_encode.proofs.Laws.{fields_of_join, join_of_fields}
+use Rattle.qpu_encode.proofs.JoinedFields.{fields_of_join, join_of_fields}
 use Rattle.qpu_encode.specs.WordFields.{bit, alu_widths, ldi_widths, alu_values, ldi_values, word_of, form_of, alu_from, ldi_from, ◌>>=◌, kept, is_in_profile, is_target, is_source, is_part, is_small, is_unpack, bra_widths, bra_values, bra_from, distance_bits, distance_of, is_distance, by_signal}
 
 -- ---- tables

@@ -1,3 +1,4 @@
 pub mod Codes
 pub mod WordFields
 pub mod Operations
+pub mod Laws

@@ -1,3 +1,4 @@
 pub mod Accs
 pub mod Chain
 pub mod Count
+pub mod Early

@@ -1,12 +1,14 @@
--- The restrictions on a word, each as a test of its own, and the least one that is broken.
+-- The restrictions on a word, each as a test of its own, and the least one that is broken. Their wording and numbers are this project's own;
+-- what they guard against is said by Broadcom's VideoCore IV 3D Architecture Reference Guide, QPU chapter.
 use Rattle.std.specs.Prelude.{◌≡◌, ℕ, ◌/◌, ◌%◌, ◌^◌, ◌<◌, Bool, true, false, not, nat_le, nat_lt, ◌==◌, ◌||◌, ◌&&◌, Option, Some, None, List, [], ◌∷◌}
+use Rattle.std.specs.List.{list_any}
 use Rattle.qpu_encode.specs.declared.form.Form.{Form}
 use Rattle.qpu_rules.specs.declared.access.Accesses.{Accesses}
 use Rattle.qpu_rules.specs.declared.access.Accesses.TheVariants.{Nothing, One, Several}
 use Rattle.qpu_rules.specs.declared.recent.Recent.{Recent}
 use Rattle.qpu_rules.specs.Uses.{is_end, is_branch, file_read, writes_file, rotates, rotates_by_five, mul_selectors, accesses, count_of, reads_uniform, writes_acc, accs_written}
 use Rattle.vpm_words.specs.Rules as access
-use Rattle.vpm_words.specs.Rules.{number, first_of, least}
+use Rattle.vpm_words.specs.Rules.{number, first_of, least, least_broken}
 use Rattle.vpm_words.specs.declared.state.Access.{Access}
 use Rattle.vpm_words.specs.declared.state.Access.TheVariants.{Uniform}
 use Rattle.vpm_words.specs.declared.state.Rule.{Rule}
@@ -69,11 +71,6 @@ breaks_h6 f r = (is_branch f || is_end f) && (nat_lt 0 r.slots || nat_lt 0 r.end
 unfoldable pub breaks_h7 : Form → Recent → Bool
 breaks_h7 f r = (is_end f && writes_file f) || ((is_end f || nat_lt 0 r.ending) && not (is_nothing (count_of (accesses f))))
 
--- one of the accesses passes a test
-abbrev pub any : (Access → Bool) → List Access → Bool
-any test [] = false
-any test (a ∷ others) = any test others || test a
-
 -- whether a word breaks a rule: H0 isn't a matter of words of the profile
 abbrev pub breaks : Form → Recent → Seen → Rule → Bool
 breaks f r s H0 = false
@@ -84,19 +81,40 @@ breaks f r s H4 = breaks_h4 f s
 breaks f r s H5 = breaks_h5 f
 breaks f r s H6 = breaks_h6 f r
 breaks f r s H7 = breaks_h7 f r
-breaks f r s H8 = any (λ a. access.breaks_h8 a s) (accesses f)
-breaks f r s H9 = any (λ a. access.breaks_h9 a s) (accesses f)
-breaks f r s H10 = any (λ a. access.breaks_h10 a s) (accesses f)
-breaks f r s H11 = any (λ a. access.breaks_h11 a s) (accesses f)
-breaks f r s H12 = any (λ a. access.breaks_h12 a s) (accesses f)
-breaks f r s H13 = any (λ a. access.breaks_h13 a r.age s) (accesses f)
-breaks f r s H14 = any (λ a. access.breaks_h14 a s) (accesses f)
-breaks f r s H15 = any (λ a. access.breaks_h15 a s) (accesses f)
-breaks f r s H16 = any (λ a. access.breaks_h16 a s) (accesses f)
+breaks f r s H8 = list_any (λ a. access.breaks_h8 a s) (accesses f)
+breaks f r s H9 = list_any (λ a. access.breaks_h9 a s) (accesses f)
+breaks f r s H10 = list_any (λ a. access.breaks_h10 a s) (accesses f)
+breaks f r s H11 = list_any (λ a. access.breaks_h11 a s) (accesses f)
+breaks f r s H12 = list_any (λ a. access.breaks_h12 a s) (accesses f)
+breaks f r s H13 = list_any (λ a. access.breaks_h13 a r.age s) (accesses f)
+breaks f r s H14 = list_any (λ a. access.breaks_h14 a s) (accesses f)
+breaks f r s H15 = list_any (λ a. access.breaks_h15 a s) (accesses f)
+breaks f r s H16 = list_any (λ a. access.breaks_h16 a s) (accesses f)
 
 -- the first rule that is broken, in order of number
 unfoldable pub least_rule : Form → Recent → Seen → Option Rule
 least_rule f r s = least (breaks f r s)
+
+-- ---- the same in two parts: what the QPU's own words and uniforms decide, and then what its access looks at
+
+-- the least of H1 to H7, where this many uniforms are left
+unfoldable pub least_early : Form → Recent → ℕ → Option Rule
+least_early f r left =
+    first_of (breaks_h1 f r) H1 (first_of (breaks_h2 f r) H2 (first_of (breaks_h3 f r) H3
+    (first_of (reads_uniform f && (left == 0)) H4 (first_of (breaks_h5 f) H5 (first_of (breaks_h6 f r) H6
+    (first_of (breaks_h7 f r) H7 None))))))
+
+-- the least rule that the one access of a word breaks, None where it has none or several
+abbrev pub least_late : Option Access → ℕ → Seen → Option Rule
+least_late None age s = None
+least_late (Some a) age s = least_broken a age s
+
+-- the first where there is one, else the second
+abbrev pub or_rule : Option Rule → Option Rule → Option Rule
+or_rule None other = other
+or_rule (Some rule) other = Some rule
+
+-- ---- by the count of a word's accesses
 
 -- the least rule of an access, from H8 on
 unfoldable pub least_of_access : Access → ℕ → Seen → Option Rule

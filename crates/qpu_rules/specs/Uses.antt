@@ -10,6 +10,7 @@ use Rattle.vpm_words.specs.declared.state.Access.{Access}
 use Rattle.vpm_words.specs.declared.state.Access.TheVariants.{Uniform, ReadVpm, WaitLoad, WaitStore, Lock, WriteVpm, ReadSet, WriteSet, LoadAddr, StoreAddr, Unlock}
 use Rattle.qpu_rules.specs.declared.access.Accesses.{Accesses}
 use Rattle.qpu_rules.specs.declared.access.Accesses.TheVariants as accessing
+use Rattle.qpu_rules.specs.declared.recent.Written.{Written}
 use Rattle.qpu_rules.specs.declared.registers.Target.{Target}
 
 abbrev pub is_small : Head → Bool
@@ -121,6 +122,10 @@ accs_written f = bit (writes_acc 0 f) + 2 * bit (writes_acc 1 f) + 4 * bit (writ
 unfoldable pub five_written : Form → Bool
 five_written f = is_written_at 37 (add_target f) || is_written_at 37 (mul_target f)
 
+-- what a word writes, as far as the next one must watch for it
+unfoldable pub written_by : Form → Written
+written_by f = record { file_a = file_written false f; file_b = file_written true f; accs = accs_written f; five = five_written f }
+
 -- ---- rotation
 
 -- the codes of a rotation are 48 to 63 in a small immediate
@@ -180,11 +185,27 @@ accesses f =
     listed (read_access false (read_as false f)) (listed (read_access true (read_as true f))
     (listed (write_access (add_target f)) (listed (write_access (mul_target f)) [])))
 
+-- the one element of a list: None where it has none or several
+abbrev pub only : List Access → Option Access
+only [] = None
+only (a ∷ []) = Some a
+only (a ∷ (b ∷ others)) = None
+
+-- the one access of a word
+unfoldable pub access_of : Form → Option Access
+access_of f = only (accesses f)
+
 -- none, one, or more
 abbrev pub count_of : List Access → Accesses
 count_of [] = accessing.Nothing
 count_of (a ∷ []) = accessing.One a
 count_of (a ∷ (b ∷ others)) = accessing.Several
+
+-- the one that is counted
+abbrev pub sole : Accesses → Option Access
+sole accessing.Nothing = None
+sole (accessing.One a) = Some a
+sole accessing.Several = None
 
 -- with one access more
 abbrev pub added : Option Access → Accesses → Accesses

@@ -1,7 +1,8 @@
 //! The peripheral accesses of a word.
 
-ghost use Rattle.std.specs.Prelude.{◌≡◌};
-ghost use Rattle.qpu_rules.specs.Uses.{access_of_read, read_access, access_of_write, write_access, accesses, count_of, added, read_as, is_at, reads_uniform};
+ghost use Rattle.std.specs.Prelude.{◌≡◌, is_some};
+ghost use Rattle.qpu_rules.specs.Uses as uses;
+ghost use Rattle.qpu_rules.specs.Uses.{access_of_read, read_access, access_of_write, write_access, accesses, count_of, sole, added, read_as, is_at, reads_uniform};
 
 use crate::registers::{Target, address_read, target_of_add, target_of_mul, written};
 use qpu_encode::Form;
@@ -82,6 +83,13 @@ fn access_by_write(target: Target) -> Option<Access>
     }
 }
 
+/// Whether a unit writes a peripheral.
+pub fn goes_out(target: Target) -> bool
+    ensures { result ≡ is_some (write_access target) }
+{
+    access_by_write(target).is_some()
+}
+
 fn add(access: Option<Access>, others: Accesses) -> Accesses
     ensures { result ≡ added access others }
 {
@@ -103,6 +111,23 @@ pub fn accesses_of(form: &Form) -> Accesses
     let by_units = add(access_by_write(target_of_add(form)), by_mul);
     let with_b = add(access_by_read(true, form), by_units);
     add(access_by_read(false, form), with_b)
+}
+
+fn only_one(accesses: Accesses) -> Option<Access>
+    ensures { result ≡ sole accesses }
+{
+    match accesses {
+        Accesses::One(access) => Some(access),
+        Accesses::Nothing | Accesses::Several => None,
+    }
+}
+
+/// The one access of a word; None where it has none or several.
+#[tactic(auto, unfolding(crate::specs::Uses::access_of), using(crate::proofs::Count::sole_of_count))]
+pub fn access_of(form: &Form) -> Option<Access>
+    ensures { result ≡ uses.access_of form.now }
+{
+    only_one(accesses_of(form))
 }
 
 fn is_uniform(address: Option<u8>) -> bool

@@ -1,7 +1,7 @@
 //! The registers that a word reads and writes.
 
-ghost use Rattle.std.specs.Prelude.{◌≡◌};
-ghost use Rattle.qpu_rules.specs.Uses.{is_small, is_never, is_end, is_branch, is_written, add_target, mul_target, read_as, register, file_read, written_in, file_written, writes_file, rotates, rotates_by_five};
+ghost use Rattle.std.specs.Prelude.{◌≡◌, ◌||◌};
+ghost use Rattle.qpu_rules.specs.Uses.{is_small, is_never, is_end, is_branch, is_written, is_written_at, add_target, mul_target, read_as, register, file_read, written_in, file_written, writes_file, rotates, rotates_by_five};
 
 use qpu_encode::{Cond, Form, Head};
 
@@ -33,6 +33,13 @@ pub fn written(target: Target) -> bool
     ensures { result ≡ is_written target }
 {
     !never(target.cond)
+}
+
+/// Whether one of the two units writes this address.
+pub fn writes_at(x: u8, add: Target, mul: Target) -> bool
+    ensures { result ≡ is_written_at x add || is_written_at x mul }
+{
+    (written(add) && add.dst == x) || (written(mul) && mul.dst == x)
 }
 
 /// Where the add unit writes.

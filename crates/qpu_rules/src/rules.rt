@@ -94,11 +94,11 @@ fn turns_off_late(form: &Form, recent: &Recent) -> bool
 }
 
 #[tactic(auto, unfolding(crate::specs::Restrictions::breaks_h7))]
-fn works_at_end(form: &Form, recent: &Recent) -> bool
+fn works_at_end(form: &Form, found: Accesses, recent: &Recent) -> bool
+    requires { found ≡ count_of (accesses form.now) }
     ensures { result ≡ breaks_h7 form.now recent.now }
 {
-    (ends(form) && file_writer(form))
-        || ((ends(form) || recent.ending > 0) && !nothing(accesses_of(form)))
+    (ends(form) && file_writer(form)) || ((ends(form) || recent.ending > 0) && !nothing(found))
 }
 
 fn mine(owner: Owner) -> bool
@@ -258,7 +258,7 @@ fn least(form: &Form, recent: &Recent, seen: &Seen) -> Option<Rule>
         Some(Rule::H5)
     } else if turns_off_late(form, recent) {
         Some(Rule::H6)
-    } else if works_at_end(form, recent) {
+    } else if works_at_end(form, accesses, recent) {
         Some(Rule::H7)
     } else {
         broken_by_accesses(accesses, recent.age, seen)

@@ -1,5 +1,8 @@
-use super::{Owner, Recent, Rule, Seen, first_broken};
-use qpu_encode::decode;
+use super::{
+    Access, Owner, Recent, Rule, Seen, Target, Written, access_of, branches, ends, first_broken,
+    goes_out, target_of_add, target_of_mul, written_by,
+};
+use qpu_encode::{AddOp, AddPart, BraCond, Cond, Form, Head, MulOp, MulPart, decode};
 
 // No operation.
 const NOP: u64 = 0x1000_09E7_009E_7000;
@@ -259,4 +262,126 @@ fn lawful_words(rt: HostRuntime) {
     ] {
         assert_eq!(rt; found(word, first, second), None, "at {word}");
     }
+}
+
+// A load immediate whose units write at these addresses.
+fn load(add: (Cond, u8), mul: (Cond, u8), swap: bool) -> Form {
+    Form::Ldi {
+        add_cond: add.0,
+        mul_cond: mul.0,
+        swap,
+        add_dst: add.1,
+        mul_dst: mul.1,
+        value: 0,
+    }
+}
+
+// An ALU word that reads these addresses; its add unit alone writes, r0.
+fn read(head: Head, ra: u8, rb: u8) -> Form {
+    Form::Alu {
+        head,
+        unpack: 0,
+        add: AddPart {
+            op: AddOp::Or,
+            cond: Cond::Always,
+            dst: 32,
+            a: 6,
+            b: 7,
+        },
+        mul: MulPart {
+            op: MulOp::Nop,
+            cond: Cond::Never,
+            dst: 39,
+            a: 0,
+            b: 0,
+        },
+        flags: false,
+        swap: false,
+        ra,
+        rb,
+    }
+}
+
+const BACK: Form = Form::Bra {
+    cond: BraCond::Always,
+    words: -6,
+};
+
+#[test]
+fn what_is_written(rt: HostRuntime) {
+    for (add, mul, swap, file_a, file_b, accs, five) in [
+        (7, 33, false, Some(7), None, 0b0010, false),
+        (7, 8, true, Some(8), Some(7), 0b0000, false),
+        (35, 37, true, None, None, 0b1000, true),
+        (32, 34, false, None, None, 0b0101, false),
+        (37, 31, false, None, Some(31), 0b0000, true),
+        (39, 36, false, None, None, 0b0000, false),
+    ] {
+        let written = Written {
+            file_a,
+            file_b,
+            accs,
+            five,
+        };
+        let form = load((Cond::Always, add), (Cond::Nc, mul), swap);
+        assert_eq!(rt; written_by(&form), written, "at {add}");
+    }
+    let nothing = Written {
+        file_a: None,
+        file_b: None,
+        accs: 0,
+        five: false,
+    };
+    assert_eq!(rt;
+        written_by(&load((Cond::Never, 7), (Cond::Never, 37), false)),
+        nothing
+    );
+    assert_eq!(rt; written_by(&BACK), nothing);
+}
+
+// 39 is read as nothing, and 51 is the mutex.
+#[test]
+fn the_one_access(rt: HostRuntime) {
+    for (head, ra, rb, access) in [
+        (Head::Plain, 32, 39, Some(Access::Uniform)),
+        (Head::Plain, 32, 32, None),
+        (Head::Plain, 5, 48, Some(Access::ReadVpm)),
+        (Head::Small, 5, 48, None),
+        (Head::End, 50, 51, None),
+    ] {
+        assert_eq!(rt; access_of(&read(head, ra, rb)), access, "at {ra} {rb}");
+    }
+    for (add, mul, swap, access) in [
+        (39, 50, false, Some(Access::StoreAddr)),
+        (39, 50, true, Some(Access::LoadAddr)),
+        (49, 39, false, Some(Access::ReadSet)),
+        (48, 51, false, None),
+    ] {
+        let form = load((Cond::Always, add), (Cond::Always, mul), swap);
+        assert_eq!(rt; access_of(&form), access, "at {add} {mul}");
+    }
+    assert_eq!(rt; access_of(&BACK), None);
+}
+
+#[test]
+fn units_and_kinds(rt: HostRuntime) {
+    let form = load((Cond::Zs, 48), (Cond::Ns, 47), false);
+    let add = Target {
+        cond: Cond::Zs,
+        through_b: false,
+        dst: 48,
+    };
+    let mul = Target {
+        cond: Cond::Ns,
+        through_b: true,
+        dst: 47,
+    };
+    assert_eq!(rt; target_of_add(&form), add);
+    assert_eq!(rt; target_of_mul(&form), mul);
+    assert!(rt; goes_out(add));
+    assert!(rt; !goes_out(mul));
+    assert!(rt; ends(&read(Head::End, 39, 39)));
+    assert!(rt; !ends(&form));
+    assert!(rt; branches(&BACK));
+    assert!(rt; !branches(&form));
 }

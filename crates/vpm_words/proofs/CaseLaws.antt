@@ -73,12 +73,15 @@ known_effects =
     record {
       uniform = refl;
       row = refl;
+      next_row = refl;
       wait = refl;
       mutex = refl;
       setup_of_rows = refl;
       setup_of_load = refl;
       no_access = refl;
       old = refl;
+      uniform_taken = refl;
+      uniforms_end = refl;
       row_read = refl;
       row_written = refl;
       halves = refl;
@@ -105,4 +108,6 @@ known_shares =
       load_whole = refl;
       store_whole = refl;
       acquired = refl;
+      acquired_less = refl;
+      released = refl;
     }

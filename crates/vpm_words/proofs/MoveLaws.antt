@@ -147,7 +147,7 @@ length-elements_of address t = length-map-range_with_len (element_at address t) 
 mode_of : (t : Piece) → IsTransfer t → is_mode t.mode ≡ true
 mode_of t h = (and_parts (is_mode t.mode) (nat_le 1 t.len && (nat_lt t.row 64 && nat_le (t.col + t.len) 16)) h).0
 
-lies : (address : ℕ) (t : Piece) → IsTransfer t → (i : ℕ) → i < t.len → LiesIn address t (element_at address t i)
+pub lies : (address : ℕ) (t : Piece) → IsTransfer t → (i : ℕ) → i < t.len → LiesIn address t (element_at address t i)
 lies address t h i l =
     let b : Bounds t = bounds t h in
     let fits : t.col + t.len ≤ 16 = b.fits in record {

@@ -2,12 +2,16 @@
 -- setups after it, and what is shared after it.
 --
 -- The machine queues the elements of a transfer that is started. One QPU alone (`at_once`) moves them when it starts the transfer.
-use Rattle.std.specs.Prelude.{ℕ, ◌+◌, ◌-◌, ◌*◌, ◌%◌, List, [], ◌∷◌, length, Bool, true, false, not, if◌then◌else◌, nat_le, nat_lt, min, ◌==◌, ◌&&◌, ◌||◌, Option, Some, None, is_some, is_none, get_or, slice_set}
+--
+-- VPM, mutex and DMA engines are those of Broadcom's VideoCore IV 3D Architecture Reference Guide, chapters on the QPU and on the VPM and
+-- VCD. This project's own are: that each QPU has setups of its own and how long they last, the step of rows from 63 to 0, that element 0 of
+-- what is written to a setup or an address counts, and the 0 that a wait and the mutex give.
+use Rattle.std.specs.Prelude.{ℕ, suc, ◌+◌, ◌-◌, ◌*◌, ◌%◌, ◌^◌, List, [], ◌∷◌, length, Bool, true, false, not, if◌then◌else◌, nat_le, nat_lt, min, ◌==◌, ◌&&◌, ◌||◌, Option, Some, None, is_some, is_none, get_or, slice_set}
 use Rattle.std.specs.List.{list_any}
 use Rattle.vpm_words.specs.Piece.{Piece}
 use Rattle.vpm_words.specs.Words.{read_setup_of, write_setup_of}
 use Rattle.vpm_words.specs.Elements.{size_of, elements_of, is_in_row}
-use Rattle.vpm_words.specs.Moves.{cell, load_all, store_all}
+use Rattle.vpm_words.specs.Moves.{load_all, store_all}
 use Rattle.vpm_words.specs.Rules.{is_me, is_other, asks_rows, first_of}
 use Rattle.vpm_words.specs.declared.setup.ReadSetup.{ReadSetup}
 use Rattle.vpm_words.specs.declared.setup.ReadSetup.TheVariants.{Rows, Load}
@@ -38,11 +42,15 @@ no_setups = record { taken = 0; read_row = 0; rows_left = 0; age = 3; write_row 
 
 -- ---- what a read gives
 
--- element i of what the word reads: the uniform in all elements, a row of the VPM, and 0 for a wait and for the mutex
-abbrev pub incoming : Site → Ports → List (List ℕ) → Option Access → ℕ → ℕ
-incoming g p vpm (Some Uniform) i = get_or g.uniforms p.taken 0
-incoming g p vpm (Some ReadVpm) i = cell vpm p.read_row i
-incoming g p vpm _ i = 0
+-- the row of the VPM that the read setup is at
+abbrev pub row_of : Ports → List (List ℕ) → List ℕ
+row_of p vpm = get_or vpm p.read_row []
+
+-- element i of what the word reads: the uniform in all elements, the row of the VPM, and 0 for a wait and for the mutex
+abbrev pub incoming : Site → Ports → List ℕ → Option Access → ℕ → ℕ
+incoming g p row (Some Uniform) i = get_or g.uniforms p.taken 0
+incoming g p row (Some ReadVpm) i = get_or row i 0
+incoming g p row _ i = 0
 
 -- ---- what an access touches
 
@@ -68,15 +76,15 @@ abbrev pub row_to_read : ℕ → ℕ → Option ℕ
 row_to_read left row = if left == 0 then None else Some row
 
 -- the row that an access touches
-abbrev pub touched : Access → Ports → Option ℕ
-touched ReadVpm p = row_to_read p.rows_left p.read_row
-touched WriteVpm p = p.write_row
+abbrev pub touched : Option Access → Ports → Option ℕ
+touched (Some ReadVpm) p = row_to_read p.rows_left p.read_row
+touched (Some WriteVpm) p = p.write_row
 touched _ p = None
 
 -- the setup of the transfer that an access starts
-abbrev pub started_by : Access → Ports → Option Piece
-started_by LoadAddr p = p.load
-started_by StoreAddr p = p.store
+abbrev pub started_by : Option Access → Ports → Option Piece
+started_by (Some LoadAddr) p = p.load
+started_by (Some StoreAddr) p = p.store
 started_by _ p = None
 
 -- ---- what is shared, as one QPU sees it
@@ -94,8 +102,16 @@ abbrev pub is_row_busy : Option ℕ → List Element → List Element → Bool
 is_row_busy None loads stores = false
 is_row_busy (Some row) loads stores = list_any (is_in_row row) loads || list_any (is_in_row row) stores
 
--- what the restrictions look at; value is element 0 of what the word writes to a setup or an address
-unfoldable pub seen : Site → Ports → Shared → Access → ℕ → Seen
+-- the value that an access writes to a setup or an address, else 0
+abbrev pub value_seen : Option Access → ℕ → ℕ
+value_seen (Some ReadSet) value = value
+value_seen (Some WriteSet) value = value
+value_seen (Some LoadAddr) value = value
+value_seen (Some StoreAddr) value = value
+value_seen _ value = 0
+
+-- what the restrictions look at; value is element 0 of what the word writes to a peripheral
+unfoldable pub seen : Site → Ports → Shared → Option Access → ℕ → Seen
 seen g p s a value =
     record {
       uniforms = length g.uniforms - p.taken;
@@ -107,7 +123,7 @@ seen g p s a value =
       load_busy = is_busy s.loads;
       store_busy = is_busy s.stores;
       row_busy = is_row_busy (touched a p) s.loads s.stores;
-      value = value;
+      value = value_seen a value;
       fits = fits_if_set g (started_by a p) value;
     }
 
@@ -200,8 +216,9 @@ abbrev pub next_row : Option ℕ → Option ℕ
 next_row None = None
 next_row (Some row) = Some ((row + 1) % 64)
 
+-- the count of uniforms stays at its last value. A QPU has no more of them than that, and one past its last breaks H4
 abbrev pub accessed : Option Access → Ports → ℕ → Ports
-accessed (Some Uniform) p value = record p { taken = p.taken + 1 }
+accessed (Some Uniform) p value = record p { taken = min (p.taken + 1) (2 ^ 32 - 1) }
 accessed (Some ReadVpm) p value = record p { read_row = (p.read_row + 1) % 64; rows_left = p.rows_left - 1 }
 accessed (Some WriteVpm) p value = record p { write_row = next_row p.write_row }
 accessed (Some ReadSet) p value = set_read p (read_setup_of value)
@@ -218,9 +235,21 @@ pub record Alone : Type 0 where
   pub shared : Shared
   pub memory : List ℕ
 
--- after `share`: a started transfer is moved whole, and an acquire finds a VPM of this content
-abbrev pub at_once : Demand → List (List ℕ) → Shared → List ℕ → Alone
-at_once (StartLoad es late) vpm s memory = record { shared = record s { vpm = load_all s.loads memory s.vpm; loads = [] }; memory = memory }
-at_once (StartStore es late) vpm s memory = record { shared = record s { stores = [] }; memory = store_all s.stores s.vpm memory }
-at_once Take vpm s memory = record { shared = record s { vpm = vpm }; memory = memory }
-at_once _ vpm s memory = record { shared = s; memory = memory }
+-- what an acquire finds: the VPM as another QPU left it, and a memory of which the bytes that QPUs share count
+pub record Given : Type 0 where
+  pub vpm : List (List ℕ)
+  pub memory : List ℕ
+
+-- the bytes at the addresses in the set from the first list, and the others from the second; the address is that of the first byte.
+-- The result is as long as the second list
+abbrev pub overlaid : (ℕ → Bool) → ℕ → List ℕ → List ℕ → List ℕ
+overlaid x at given [] = []
+overlaid x at [] (b ∷ bs) = b ∷ bs
+overlaid x at (m ∷ ms) (b ∷ bs) = (if x at then m else b) ∷ overlaid x (suc at) ms bs
+
+-- after `share`: a started transfer is moved whole, and an acquire finds what it is given. x is the set of the bytes that QPUs share
+abbrev pub at_once : (ℕ → Bool) → Demand → Given → Shared → List ℕ → Alone
+at_once x (StartLoad es late) v s memory = record { shared = record s { vpm = load_all s.loads memory s.vpm; loads = [] }; memory = memory }
+at_once x (StartStore es late) v s memory = record { shared = record s { stores = [] }; memory = store_all s.stores s.vpm memory }
+at_once x Take v s memory = record { shared = record s { vpm = v.vpm }; memory = overlaid x 0 v.memory memory }
+at_once x _ v s memory = record { shared = s; memory = memory }

@@ -1,10 +1,10 @@
 -- Cases of the rules and of what an access does, to be read beside their definitions.
-use Rattle.std.specs.Prelude.{◌≡◌, ℕ, List, [], ◌∷◌, Bool, true, false, Option, Some, None}
+use Rattle.std.specs.Prelude.{◌≡◌, ℕ, ◌==◌, List, [], ◌∷◌, Bool, true, false, Option, Some, None}
 use Rattle.vpm_words.specs.Piece.{Piece}
 use Rattle.vpm_words.specs.Words.{load_word, store_word, rows_word, row_word}
 use Rattle.vpm_words.specs.Elements.{element_at, elements_of}
 use Rattle.vpm_words.specs.Moves.{with_part, number_at, bytes_of}
-use Rattle.vpm_words.specs.Access.{Site, no_setups, incoming, StartLoad, StartStore, Take, demand, breaks, stalls, share, ports_after, at_once}
+use Rattle.vpm_words.specs.Access.{Site, no_setups, row_of, incoming, StartLoad, StartStore, Take, Give, Given, demand, breaks, stalls, share, ports_after, at_once}
 use Rattle.vpm_words.specs.declared.state.Access.{Access}
 use Rattle.vpm_words.specs.declared.state.Access.TheVariants.{Uniform, ReadVpm, WriteVpm, ReadSet, WriteSet, LoadAddr, StoreAddr, WaitLoad, WaitStore, Lock, Unlock}
 use Rattle.vpm_words.specs.declared.state.Element.{Element}
@@ -103,13 +103,16 @@ pub record KnownStalls : Type 0 where
 
 pub record KnownEffects : Type 0 where
   pub uniform : incoming here set_up [] (Some Uniform) 11 ≡ 7
-  pub row : incoming here (record set_up { read_row = 1 }) ([] ∷ (3 ∷ 4 ∷ []) ∷ []) (Some ReadVpm) 1 ≡ 4
-  pub wait : incoming here set_up ((9 ∷ []) ∷ []) (Some WaitStore) 0 ≡ 0
-  pub mutex : incoming here set_up ((9 ∷ []) ∷ []) (Some Lock) 0 ≡ 0
+  pub row : incoming here set_up (3 ∷ 4 ∷ []) (Some ReadVpm) 1 ≡ 4
+  pub next_row : row_of (record set_up { read_row = 1 }) ((1 ∷ []) ∷ (3 ∷ 4 ∷ []) ∷ []) ≡ 3 ∷ 4 ∷ []
+  pub wait : incoming here set_up (9 ∷ []) (Some WaitStore) 0 ≡ 0
+  pub mutex : incoming here set_up (9 ∷ []) (Some Lock) 0 ≡ 0
   pub setup_of_rows : ports_after (Some ReadSet) (record set_up { rows_left = 0 }) (rows_word 8 16) ≡ record set_up { read_row = 8; rows_left = 16; age = 0 }
   pub setup_of_load : ports_after (Some ReadSet) (record set_up { age = 1 }) (load_word two_words) ≡ record set_up { age = 2 }
   pub no_access : ports_after None (record set_up { age = 2 }) 0 ≡ set_up
   pub old : ports_after None set_up 0 ≡ set_up
+  pub uniform_taken : ports_after (Some Uniform) set_up 0 ≡ record set_up { taken = 1 }
+  pub uniforms_end : ports_after (Some Uniform) (record set_up { taken = 4294967295 }) 0 ≡ record set_up { taken = 4294967295 }
   pub row_read : ports_after (Some ReadVpm) (record set_up { read_row = 63; rows_left = 1 }) 0 ≡ record set_up { read_row = 0; rows_left = 0 }
   pub row_written : ports_after (Some WriteVpm) set_up 0 ≡ record set_up { write_row = Some 0 }
   pub halves :
@@ -138,7 +141,14 @@ half = record { address = 1; size = 2; row = 0; col = 1; low = 16 }
 abbrev pub one_row : List ℕ → Shared
 one_row words = record mine { vpm = words ∷ [] }
 
--- what is shared after an access, and after a transfer that is moved whole
+-- the QPUs share the byte at address 1
+abbrev pub is_shared : ℕ → Bool
+is_shared at = at == 1
+
+abbrev pub given : Given
+given = record { vpm = (3 ∷ []) ∷ []; memory = 7 ∷ 8 ∷ 9 ∷ [] }
+
+-- what is shared after an access, after a transfer that is moved whole, and after an acquire
 pub record KnownShares : Type 0 where
   pub lock : shared_after set_up (owned_by None) Lock 0 ≡ mine
   pub unlock : shared_after set_up mine Unlock 0 ≡ owned_by None
@@ -152,9 +162,11 @@ pub record KnownShares : Type 0 where
   pub set : shared_after set_up mine WriteSet (row_word 63) ≡ mine
   pub wait : shared_after set_up mine WaitStore 0 ≡ mine
   pub load_whole :
-      at_once (StartLoad [] None) [] (record (one_row (4 ∷ 5 ∷ 6 ∷ [])) { loads = half ∷ [] }) (9 ∷ 1 ∷ 2 ∷ 9 ∷ [])
+      at_once is_shared (StartLoad [] None) given (record (one_row (4 ∷ 5 ∷ 6 ∷ [])) { loads = half ∷ [] }) (9 ∷ 1 ∷ 2 ∷ 9 ∷ [])
       ≡ record { shared = one_row (4 ∷ 33619973 ∷ 6 ∷ []); memory = 9 ∷ 1 ∷ 2 ∷ 9 ∷ [] }
   pub store_whole :
-      at_once (StartStore [] None) [] (record (one_row (4 ∷ 33619973 ∷ 6 ∷ [])) { stores = half ∷ [] }) (9 ∷ 8 ∷ 7 ∷ 9 ∷ [])
+      at_once is_shared (StartStore [] None) given (record (one_row (4 ∷ 33619973 ∷ 6 ∷ [])) { stores = half ∷ [] }) (9 ∷ 8 ∷ 7 ∷ 9 ∷ [])
       ≡ record { shared = one_row (4 ∷ 33619973 ∷ 6 ∷ []); memory = 9 ∷ 1 ∷ 2 ∷ 9 ∷ [] }
-  pub acquired : at_once Take ((3 ∷ []) ∷ []) (one_row (4 ∷ [])) (9 ∷ []) ≡ record { shared = one_row (3 ∷ []); memory = 9 ∷ [] }
+  pub acquired : at_once is_shared Take given (one_row (4 ∷ [])) (4 ∷ 5 ∷ 6 ∷ []) ≡ record { shared = one_row (3 ∷ []); memory = 4 ∷ 8 ∷ 6 ∷ [] }
+  pub acquired_less : at_once is_shared Take (record given { memory = [] }) (one_row (4 ∷ [])) (4 ∷ 5 ∷ []) ≡ record { shared = one_row (3 ∷ []); memory = 4 ∷ 5 ∷ [] }
+  pub released : at_once is_shared Give given (one_row (4 ∷ [])) (4 ∷ 5 ∷ []) ≡ record { shared = one_row (4 ∷ []); memory = 4 ∷ 5 ∷ [] }

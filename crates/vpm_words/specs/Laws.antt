@@ -15,13 +15,13 @@ use Rattle.vpm_words.specs.declared.state.Shared.{Shared}
 abbrev pub SplitAgrees : Type 0
 SplitAgrees =
     (g : Site) (p : Ports) (s : Shared) (a : Access) (value : ℕ) (words : List ℕ)
-    → breaks (demand g p (Some a) value words) g.number s ≡ least_broken a p.age (seen g p s a value)
+    → breaks (demand g p (Some a) value words) g.number s ≡ least_broken a p.age (seen g p s (Some a) value)
 
 -- and it stalls where the access does
 abbrev pub StallsAgree : Type 0
 StallsAgree =
     (g : Site) (p : Ports) (s : Shared) (a : Access) (value : ℕ) (words : List ℕ)
-    → stalls (demand g p (Some a) value words) g.number s ≡ is_stalled a (seen g p s a value)
+    → stalls (demand g p (Some a) value words) g.number s ≡ is_stalled a (seen g p s (Some a) value)
 
 -- the rule is found by the test, and none before it is
 abbrev pub IsLeast : (Rule → Bool) → Option Rule → Type 0

@@ -1,4 +1,5 @@
--- Moving one element between the memory and the VPM. The VPM is a list of rows, and a row a list of words.
+-- Moving one element between the memory and the VPM. The VPM is a list of rows, and a row a list of words. That a moved half or byte leaves the
+-- other bytes of its word as they were is this project's own.
 use Rattle.std.specs.Prelude.{ℕ, zero, suc, ◌+◌, ◌*◌, ◌/◌, ◌%◌, ◌^◌, List, [], ◌∷◌, if◌then◌else◌, ◌==◌, get_or, slice_set}
 use Rattle.vpm_words.specs.declared.state.Element.{Element}
 

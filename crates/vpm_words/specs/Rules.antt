@@ -1,4 +1,5 @@
--- The restrictions on a peripheral access, each as a test of its own, and the least one that is broken.
+-- The restrictions on a peripheral access, each as a test of its own, and the least one that is broken. Their wording, their numbers and the
+-- distance of three words are this project's own.
 use Rattle.std.specs.Prelude.{ℕ, Bool, true, false, not, if◌then◌else◌, nat_lt, ◌==◌, ◌&&◌, ◌||◌, Option, Some, None, is_none}
 use Rattle.vpm_words.specs.declared.setup.ReadSetup.{ReadSetup}
 use Rattle.vpm_words.specs.declared.setup.ReadSetup.TheVariants as reading
@@ -148,3 +149,8 @@ is_stalled Lock s = is_other s.owner
 is_stalled WaitLoad s = s.load_busy
 is_stalled WaitStore s = s.store_busy
 is_stalled _ s = false
+
+-- whether a word waits: one without an access never does
+abbrev pub is_waiting : Option Access → Seen → Bool
+is_waiting None s = false
+is_waiting (Some a) s = is_stalled a s

@@ -1,5 +1,5 @@
--- The setup words (Broadcom, VideoCore IV 3D Architecture Reference Guide, chapter on the VPM and VCD: QPU registers for VPM read and
--- write setup and for the DMA setups).
+-- The setup words. What is set up is that of Broadcom's VideoCore IV 3D Architecture Reference Guide, chapter on the VPM and VCD (QPU
+-- registers for VPM read and write setup and for the DMA setups); the places and values of all fields here are this project's own.
 use Rattle.std.specs.Prelude.{◌≡◌, ℕ, ◌+◌, ◌*◌, ◌/◌, ◌%◌, ◌^◌, Bool, true, if◌then◌else◌, nat_le, nat_lt, ◌==◌, ◌&&◌}
 use Rattle.std.specs.declared.option.Option.{Option}
 use Rattle.std.specs.declared.option.Option.TheVariants.{Some, None}

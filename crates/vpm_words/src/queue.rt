@@ -1,8 +1,9 @@
 //! The elements that an engine has left.
 
-ghost use Rattle.std.specs.Prelude.{◌≡◌, ◌<◌, ◌≤◌, [], length, get_or, true};
+ghost use Rattle.std.specs.Prelude.{◌≡◌, ◌<◌, ◌≤◌, [], length, get_or, true, not};
 ghost use Rattle.std.specs.List.{remove, list_any};
-ghost use Rattle.vpm_words.specs.Elements.{is_in_row, elements_of, size_of, low_of};
+ghost use Rattle.vpm_words.specs.Access.{is_busy, started};
+ghost use Rattle.vpm_words.specs.Elements.{is_in_row, elements_of, size_of, low_of, is_element};
 ghost use Rattle.vpm_words.specs.Piece.{is_mode};
 
 use crate::state::Element;
@@ -23,6 +24,12 @@ impl Model for Queue {
     ghost Value = { List Element };
 
     ghost view = { λ q. q.cells.items };
+
+    ghost use Rattle.std.specs.Prelude.{◌≡◌, true};
+    ghost use Rattle.std.specs.List.{list_all};
+    ghost use Rattle.vpm_words.specs.Elements.{is_element};
+
+    ghost invariant = { λ q. list_all is_element q.cells.items ≡ true };
 }
 
 impl Queue {
@@ -41,6 +48,13 @@ impl Queue {
         self.cells.len() as u32
     }
 
+    /// No element is left.
+    pub fn is_empty(&self) -> bool
+        ensures { result ≡ not (is_busy self.now) }
+    {
+        self.cells.is_empty()
+    }
+
     /// Whether an element lies in this row of the VPM.
     pub fn touches(&self, row: u8) -> bool
         ensures { result ≡ list_any (is_in_row row) self.now }
@@ -52,6 +66,7 @@ impl Queue {
     pub fn take(&mut self, index: u32) -> Element
         requires { index < length self.old }
         ensures value { result ≡ get_or self.old index result }
+        ensures element { is_element result ≡ true }
         ensures rest { self.new ≡ remove self.old index }
     {
         self.cells.remove(index as usize)
@@ -78,6 +93,16 @@ impl Queue {
                 col: col + j,
                 low,
             });
+        }
+    }
+
+    /// Begins a transfer if it has its setup; else no element is left.
+    pub fn start_if_set(&mut self, address: u32, setup: Option<Transfer>)
+        ensures { self.new ≡ started setup address }
+    {
+        match setup {
+            None => self.cells.clear(),
+            Some(transfer) => self.start(address, transfer),
         }
     }
 }

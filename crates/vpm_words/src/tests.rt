@@ -1,8 +1,10 @@
-ghost use Rattle.std.specs.Prelude.{◌≤◌, ◌+◌};
+ghost use Rattle.std.specs.Prelude.{◌≡◌, ◌≤◌, ◌+◌, true};
+ghost use Rattle.vpm_words.specs.Piece.{is_mode};
 
 use super::{
-    ReadSetup, Region, Transfer, WriteSetup, load_set, may_start, parse_read, parse_write,
-    read_set, store_set, write_set,
+    Access, Element, Owner, Ports, Queue, ReadSetup, Region, Seen, Shared, Site, Transfer,
+    WriteSetup, load_element, load_set, may_start, must_wait, parse_read, parse_write, read_set,
+    see, store_element, store_set, use_ports, use_shared, write_set,
 };
 
 // Words of row 0.
@@ -143,5 +145,205 @@ fn transfers_stay_in_one_region(rt: HostRuntime) {
             want,
             "at {address}"
         );
+    }
+}
+
+// Two words of row 9.
+fn two_words() -> Transfer {
+    Transfer {
+        mode: 0,
+        len: 2,
+        row: 9,
+        col: 0,
+    }
+}
+
+// All setups are made.
+fn set_up() -> Ports {
+    Ports {
+        taken: 1,
+        read_row: 63,
+        rows_left: 2,
+        age: 1,
+        write_row: Some(62),
+        load: Some(two_words()),
+        store: Some(two_words()),
+    }
+}
+
+fn owned_by(owner: Option<u32>) -> Shared {
+    Shared {
+        vpm: [[0; 16]; 64],
+        owner,
+        loads: Queue::new(),
+        stores: Queue::new(),
+    }
+}
+
+#[test]
+fn what_is_seen(rt: HostRuntime) {
+    let uniforms = [7, 8, 9];
+    let buffers = [Region {
+        start: 256,
+        len: 64,
+    }];
+    let site = Site {
+        number: 2,
+        uniforms: &uniforms,
+        buffers: &buffers,
+        scratch: Region {
+            start: 512,
+            len: 64,
+        },
+    };
+    let mut shared = owned_by(Some(2));
+    shared.loads.start(256, two_words());
+    let start = Some(Access::StoreAddr);
+    let want = Seen {
+        uniforms: 2,
+        owner: Owner::Me,
+        read_rows: 2,
+        write_set: true,
+        load_set: true,
+        store_set: true,
+        load_busy: true,
+        store_busy: false,
+        row_busy: false,
+        value: 312,
+        fits: true,
+    };
+    assert_eq!(rt; see(&site, &set_up(), &shared, start, 312), want);
+
+    // The last word ends after the buffer.
+    let past = see(&site, &set_up(), &shared, start, 316);
+    assert!(rt; !past.fits);
+
+    // Row 9 is being loaded.
+    let mut ports = set_up();
+    ports.write_row = Some(9);
+    let write = see(&site, &ports, &shared, Some(Access::WriteVpm), 0);
+    assert!(rt; write.row_busy);
+    let none = see(&site, &ports, &shared, None, 0);
+    assert!(rt; !none.row_busy);
+
+    // A load is waited for, and a store isn't.
+    assert!(rt; must_wait(Some(Access::WaitLoad), &write));
+    assert!(rt; !must_wait(Some(Access::WaitStore), &write));
+    assert!(rt; !must_wait(None, &write));
+    shared.owner = Some(3);
+    let lock = see(&site, &ports, &shared, Some(Access::Lock), 0);
+    assert_eq!(rt; lock.owner, Owner::Other);
+    assert!(rt; must_wait(Some(Access::Lock), &lock));
+}
+
+fn after(access: Option<Access>, value: u32) -> Ports {
+    let mut ports = set_up();
+    use_ports(access, &mut ports, value);
+    ports
+}
+
+#[test]
+fn what_an_access_makes_of_its_setups(rt: HostRuntime) {
+    assert_eq!(rt; after(None, 0).age, 2);
+    assert_eq!(rt; after(Some(Access::Uniform), 0).taken, 2);
+
+    // Row 0 comes after row 63.
+    let read = after(Some(Access::ReadVpm), 0);
+    assert_eq!(rt; read.read_row, 0);
+    assert_eq!(rt; read.rows_left, 1);
+    assert_eq!(rt; after(Some(Access::WriteVpm), 0).write_row, Some(63));
+
+    let rows = after(Some(Access::ReadSet), read_set(8, 16));
+    assert_eq!(rt; rows.read_row, 8);
+    assert_eq!(rt; rows.rows_left, 16);
+    assert_eq!(rt; rows.age, 0);
+    let load = after(Some(Access::ReadSet), load_set(words(1, 3)));
+    assert_eq!(rt; load.load, Some(words(1, 3)));
+    assert_eq!(rt; load.age, 2);
+    let store = after(Some(Access::WriteSet), store_set(words(1, 3)));
+    assert_eq!(rt; store.store, Some(words(1, 3)));
+    assert_eq!(rt;
+        after(Some(Access::WriteSet), write_set(5)).write_row,
+        Some(5)
+    );
+}
+
+#[test]
+fn what_an_access_leaves_shared(rt: HostRuntime) {
+    let site = Site {
+        number: 2,
+        uniforms: &[],
+        buffers: &[],
+        scratch: Region {
+            start: 512,
+            len: 64,
+        },
+    };
+    let ports = set_up();
+    let mut words = [7; 16];
+    words[0] = 512;
+    let mut shared = owned_by(None);
+    use_shared(&site, &ports, Some(Access::Lock), &words, &mut shared);
+    assert_eq!(rt; shared.owner, Some(2));
+    use_shared(&site, &ports, Some(Access::WriteVpm), &words, &mut shared);
+    assert_eq!(rt; shared.vpm[62][0], 512);
+    assert_eq!(rt; shared.vpm[62][15], 7);
+    assert_eq!(rt; shared.vpm[63][15], 0);
+    use_shared(&site, &ports, Some(Access::LoadAddr), &words, &mut shared);
+    assert_eq!(rt; shared.loads.len(), 2);
+    assert!(rt; shared.stores.is_empty());
+    use_shared(&site, &ports, Some(Access::StoreAddr), &words, &mut shared);
+    let second = Element {
+        address: 516,
+        size: 4,
+        row: 9,
+        col: 1,
+        low: 0,
+    };
+    assert_eq!(rt; shared.stores.len(), 2);
+    assert!(rt; shared.stores.touches(9));
+    assert_eq!(rt; shared.stores.take(1), second);
+    use_shared(&site, &ports, Some(Access::Unlock), &words, &mut shared);
+    assert_eq!(rt; shared.owner, None);
+}
+
+// One element of this mode, in column 15 of row 63.
+fn one(mode: u8) -> Transfer
+    requires { is_mode mode ≡ true }
+{
+    Transfer {
+        mode,
+        len: 1,
+        row: 63,
+        col: 15,
+    }
+}
+
+#[test]
+fn other_bytes_stay(rt: HostRuntime) {
+    let old = [0xA0, 0xA1, 0xA2, 0xA3, 0xA4, 0xA5];
+    for (address, transfer, loaded, stored) in [
+        (1, one(0), 0xA4A3_A2A1, [0xA0, 0x44, 0x33, 0x22, 0x11, 0xA5]),
+        (1, one(2), 0x1122_A2A1, [0xA0, 0x44, 0x33, 0xA3, 0xA4, 0xA5]),
+        (1, one(3), 0xA2A1_3344, [0xA0, 0x22, 0x11, 0xA3, 0xA4, 0xA5]),
+        (1, one(4), 0x1122_33A1, [0xA0, 0x44, 0xA2, 0xA3, 0xA4, 0xA5]),
+        (1, one(5), 0x1122_A144, [0xA0, 0x33, 0xA2, 0xA3, 0xA4, 0xA5]),
+        (1, one(6), 0x11A1_3344, [0xA0, 0x22, 0xA2, 0xA3, 0xA4, 0xA5]),
+        (1, one(7), 0xA122_3344, [0xA0, 0x11, 0xA2, 0xA3, 0xA4, 0xA5]),
+        // past the end of the memory
+        (5, one(0), 0x0000_00A5, [0xA0, 0xA1, 0xA2, 0xA3, 0xA4, 0x44]),
+    ] {
+        let mut queue = Queue::new();
+        queue.start(address, transfer);
+        assert_eq!(rt; queue.len(), 1);
+        let element = queue.take(0);
+        let mut memory = old;
+        let mut vpm = [[5; 16]; 64];
+        vpm[63][15] = 0x1122_3344;
+        store_element(&element, &vpm, &mut memory);
+        assert_eq!(rt; memory, stored);
+        load_element(&element, &old, &mut vpm);
+        assert_eq!(rt; vpm[63][15], loaded);
+        assert_eq!(rt; vpm[63][14], 5);
     }
 }

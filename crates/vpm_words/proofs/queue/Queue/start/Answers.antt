@@ -1,9 +1,10 @@
-use Rattle.std.proofs.Common.{arith, ◌≡◌, ◌∙◌, ℕ, ap, List, map}
+use Rattle.std.proofs.Common.{rules, arith, ◌≡◌, ◌∙◌, ℕ, ap, subst, List, map}
 use Rattle.std.specs.List.{range_with_len}
 use Rattle.std.proofs.lemmas.List.FromFn.{map-range_with_len_more}
-use Rattle.vpm_words.specs.Piece.{Piece}
+use Rattle.vpm_words.specs.Piece.{Piece, IsTransfer}
 use Rattle.vpm_words.specs.declared.state.Element.{Element}
 use Rattle.vpm_words.specs.Elements.{elements_of, element_at}
+use Rattle.vpm_words.proofs.ElementLaws.{elements_fit}
 use Rattle.vpm_words.proofs.queue.Queue.start.Goals as goal
 
 pub loop-j-preserved : goal.loop-j-preserved
@@ -21,3 +22,9 @@ pub returns : goal.returns
 returns c =
     let e : c.loop-j.j ≡ c.transfer.inside.len = omega arith in
     whole c.args.address c.loop-j.j c.args.transfer c.loop-j.self-inside.cells.items c.loop-j.invariant.1 (e ∙ ap (λ (p : Piece). p.len) c.transfer.view_is)
+
+pub invariant_of-self : goal.invariant_of-self
+invariant_of-self c =
+    let e : c.loop-j.j ≡ c.transfer.inside.len = omega arith in
+    rw (whole c.args.address c.loop-j.j c.args.transfer c.loop-j.self-inside.cells.items c.loop-j.invariant.1 (e ∙ ap (λ (p : Piece). p.len) c.transfer.view_is))
+    (elements_fit c.args.address c.args.transfer (search rules) (subst IsTransfer c.transfer.view_is c.transfer.invariant))
