@@ -1,4 +1,16 @@
+pub mod Tried
+pub mod Split
+pub mod SplitUses
 pub mod Steps
 pub mod Nothing
 pub mod Runs
-pub mod Opened
+pub mod RangeRegs
+pub mod RangeQpu
+pub mod RangeShared
+pub mod RangeSteps
+pub mod RangeRuns
+pub mod RangeSolo
+pub mod Seeds
+pub mod ScheduleRuns
+pub mod RangeFill
+pub mod Built

@@ -1,4 +1,11 @@
 pub mod Planned
-pub mod Issue
+pub mod Operations
+pub mod IssueStep
+pub mod MoveStep
 pub mod MachineState
+pub mod MachineRun
+pub mod Schedules
 pub mod Opening
+pub mod Reachable
+pub mod SoloRun
+pub mod Laws

@@ -1,5 +1,7 @@
--- What a machine is begun with, and what of it a run never changes. The memory is one list of bytes, and code and uniforms lie outside it.
-use Rattle.std.specs.Prelude.{◌≡◌, ℕ, List, ◌++◌, ◌+◌, ◌*◌, ◌^◌, ◌<◌, ◌≤◌, length, slice_get, slice_range, IfSome}
+-- What a machine is begun with, and what of it a run never changes. The memory is one list of bytes; that code and uniforms lie outside it is
+-- this project's own.
+use Rattle.std.specs.Prelude.{◌≡◌, ℕ, List, ◌++◌, ◌+◌, ◌*◌, ◌^◌, ◌<◌, ◌≤◌, length, get_or, slice_get, slice_range, IfSome}
+use Rattle.vpm_words.specs.Access.{Site}
 use Rattle.vpm_words.specs.declared.state.Region.{Region}
 
 -- a plan
@@ -40,6 +42,7 @@ AreApart regions =
 pub record IsPlan (plan : Planned) : Type 0 where
   pub some : 1 ≤ plan.qpus
   pub few : plan.qpus ≤ 12
+  pub per : plan.per < 2 ^ 32
   pub uniforms : length plan.uniforms ≡ plan.qpus * plan.per
   pub scratch : length plan.scratch ≡ plan.qpus
   pub code : 1 ≤ length plan.words
@@ -52,3 +55,27 @@ pub record IsPlan (plan : Planned) : Type 0 where
 -- the bytes of a region
 abbrev pub bytes_of : List ℕ → Region → List ℕ
 bytes_of memory region = slice_range memory region.start (region.start + region.len)
+
+abbrev pub no_region : Region
+no_region = record { start = 0; len = 0 }
+
+-- QPU k's number, its uniforms, the buffers, and its own scratch
+unfoldable pub site_of : Fixed → ℕ → Site
+site_of g k =
+    record {
+      number = k;
+      uniforms = slice_range g.uniforms (k * g.per) (k * g.per + g.per);
+      buffers = g.buffers;
+      scratch = get_or g.scratch k no_region;
+    }
+
+-- each of so many QPUs has its uniforms and its scratch
+pub record HasSites (qpus : ℕ) (g : Fixed) : Type 0 where
+  pub uniforms : length g.uniforms ≡ qpus * g.per
+  pub scratch : length g.scratch ≡ qpus
+
+-- what so many QPUs and a memory of this size go with: a VideoCore IV has up to twelve QPUs
+pub record IsBuilt (qpus size : ℕ) (g : Fixed) : Type 0 where
+  pub few : qpus ≤ 12
+  pub buffers : LieIn g.buffers size
+  pub sites : HasSites qpus g

@@ -1,130 +1,265 @@
 //! One issue of one QPU.
 
-ghost use Rattle.std.specs.Prelude.{◌≡◌, Some};
-ghost use Rattle.qpu_machine.specs.Issue.{is_resting, is_taken, fetched, is_end, least_broken, flow_after, done, local};
+ghost use Rattle.std.specs.Prelude.{◌≡◌, Some, get_or};
+ghost use Rattle.q_lane.specs.Vectors.{lanes, lane};
+ghost use Rattle.vpm_words.specs.Access.{incoming, row_of};
+ghost use Rattle.qpu_rules.specs.Uses.{access_of};
+ghost use Rattle.qpu_machine.specs.Operations.{outgoing};
+ghost use Rattle.qpu_machine.specs.IssueStep.{one_more, fetched, is_taken, target_after, flow_after, recent, given, seen_by, counts_after, qpu_after, shared_after, done, tried, local};
 
-use crate::state::{Counts, Effect, Flow, Qpu};
-use qpu_encode::{Form, Head, decode};
-use vpm_words::Rule;
+use crate::registers::{Results, commit, compute, spread, words_out};
+use crate::state::{Counts, Effect, Flow, Qpu, Regs};
+use qpu_encode::{Form, Instr, decode, holds};
+use qpu_rules::{Recent, access_of, branches, ends, first_broken, written_by};
+use vpm_words::{Access, Ports, Rule, Shared, Site, must_wait, see, use_ports, use_shared};
 
-fn rests(op: u8, cond: u8, dst: u8, a: u8, b: u8) -> bool
-    ensures { result ≡ is_resting op cond dst a b }
-{
-    (op == 0 && cond == 0) && (dst == 39 && (a == 0 && b == 0))
-}
-
-#[tactic(auto, unfolding(crate::specs::Issue::is_taken))]
-fn takes(form: &Form) -> bool
-    ensures { result ≡ is_taken form.now }
-{
-    match *form {
-        Form::Alu {
-            head,
-            unpack,
-            add,
-            mul,
-            flags,
-            swap,
-            ra,
-            rb,
-        } => {
-            (rests(add.op as u8, add.cond as u8, add.dst, add.a, add.b)
-                && rests(mul.op as u8, mul.cond as u8, mul.dst, mul.a, mul.b))
-                && ((unpack == 0 && (!flags && !swap))
-                    && ((ra == 39 && rb == 39) && !(head as u8 == 13)))
-        }
-        Form::Ldi { .. } | Form::Bra { .. } => false,
-    }
-}
-
-#[tactic(auto, unfolding(crate::specs::Issue::fetched))]
-fn fetch(code: &[u64], place: u32) -> Option<Form>
+#[tactic(auto, unfolding(crate::specs::IssueStep::fetched))]
+fn fetch(code: &[u64], place: u32) -> Option<Instr>
     ensures { result ≡ fetched code.now place }
 {
     match code.get(place as usize) {
         None => None,
-        Some(word) => match decode(*word) {
-            None => None,
-            Some(instr) => {
-                let form = instr.form;
-                if takes(&form) { Some(form) } else { None }
+        Some(word) => decode(*word),
+    }
+}
+
+#[tactic(auto, unfolding(crate::specs::IssueStep::is_taken))]
+fn takes(form: &Form, regs: &Regs) -> bool
+    ensures { result ≡ is_taken form.now regs.now }
+{
+    match *form {
+        Form::Bra { cond, .. } => holds(cond, &regs.zero, &regs.neg),
+        Form::Alu { .. } | Form::Ldi { .. } => false,
+    }
+}
+
+fn next_target(form: &Form, taken: bool, place: u32, old: u32) -> u32
+    ensures { result ≡ target_after form.now taken place old }
+{
+    match *form {
+        Form::Bra { words, .. } => {
+            let past = place.wrapping_add(4);
+            if taken {
+                past.wrapping_add(words.cast_unsigned())
+            } else {
+                past
             }
-        },
-    }
-}
-
-fn ends(form: &Form) -> bool
-    ensures { result ≡ is_end form.now }
-{
-    matches!(
-        form,
-        Form::Alu {
-            head: Head::End,
-            ..
         }
-    )
-}
-
-#[tactic(auto, unfolding(crate::specs::Issue::least_broken))]
-fn broken_rule(form: &Form, flow: &Flow) -> Option<Rule>
-    ensures { result ≡ least_broken (Some form.now) flow.now }
-{
-    if ends(form) && flow.ending > 0 {
-        Some(Rule::H0)
-    } else {
-        None
+        Form::Alu { .. } | Form::Ldi { .. } => old,
     }
 }
 
-#[tactic(auto, unfolding(crate::specs::Issue::flow_after))]
-fn advance(form: &Form, flow: &mut Flow)
-    ensures { flow.new ≡ flow_after form.now flow.old }
+// How many words are done after a branch before it goes, and after a program end before the QPU has ended.
+const DELAY_SLOTS: u8 = 3;
+
+const END_SLOTS: u8 = 2;
+
+#[tactic(auto, unfolding(crate::specs::IssueStep::flow_after))]
+fn advance(form: &Form, taken: bool, flow: &mut Flow)
+    ensures { flow.new ≡ flow_after form.now taken flow.old }
 {
-    flow.place = flow.place.wrapping_add(1);
+    let place = flow.place;
+    flow.place = if flow.slots == 1 {
+        flow.target
+    } else {
+        place.wrapping_add(1)
+    };
     flow.ended = flow.ending == 1;
+    flow.slots = if branches(form) {
+        DELAY_SLOTS
+    } else {
+        flow.slots.saturating_sub(1)
+    };
+    flow.target = next_target(form, taken, place, flow.target);
     flow.ending = if ends(form) {
-        2
+        END_SLOTS
     } else {
         flow.ending.saturating_sub(1)
     };
     flow.issued = flow.issued.saturating_add(1);
 }
 
-#[tactic(auto, unfolding(crate::specs::Issue::done))]
-fn perform(form: &Form, q: &mut Qpu, counts: &mut Counts) -> Effect
-    ensures qpu { q.new ≡ (done form.now q.old counts.old).qpu }
-    ensures counts { counts.new ≡ (done form.now q.old counts.old).counts }
-    ensures effect { result ≡ (done form.now q.old counts.old).effect }
+#[tactic(auto, unfolding(crate::specs::IssueStep::recent))]
+fn remember(q: &Qpu) -> Recent
+    ensures { result ≡ recent q.now }
 {
-    advance(form, &mut q.flow);
+    Recent {
+        file_a: q.written.file_a,
+        file_b: q.written.file_b,
+        accs: q.written.accs,
+        five: q.written.five,
+        slots: q.flow.slots,
+        ending: q.flow.ending,
+        age: q.ports.age,
+    }
+}
+
+fn copy_row(row: &[u32; 16]) -> [u32; 16]
+    ensures { result ≡ lanes 16 (lane row.now) }
+{
+    let mut words = [0; 16];
+    for i in 0..16 {
+        words[i] = row[i];
+    }
+    words
+}
+
+fn row_read(ports: &Ports, vpm: &[[u32; 16]; 64]) -> [u32; 16]
+    ensures { result ≡ lanes 16 (lane (row_of ports.now vpm.now)) }
+{
+    let row = usize::from(ports.read_row);
+    if row < 64 {
+        copy_row(&vpm[row])
+    } else {
+        spread(0)
+    }
+}
+
+fn number_of(site: &Site<'_>) -> u32
+    ensures { result ≡ site.now.number }
+{
+    site.number
+}
+
+fn next_uniform(site: &Site<'_>, ports: &Ports) -> u32
+    ensures { result ≡ get_or site.now.uniforms ports.now.taken 0 }
+{
+    let taken = ports.taken;
+    match site.uniforms.get(taken as usize) {
+        Some(word) => *word,
+        None => 0,
+    }
+}
+
+/// What a read of a peripheral gives.
+fn arriving(
+    site: &Site<'_>,
+    ports: &Ports,
+    vpm: &[[u32; 16]; 64],
+    access: Option<Access>,
+) -> [u32; 16]
+    ensures { result ≡ lanes 16 (incoming site.now ports.now (row_of ports.now vpm.now) access) }
+{
+    match access {
+        None => spread(0),
+        Some(access) => match access {
+            Access::Uniform => spread(next_uniform(site, ports)),
+            Access::ReadVpm => row_read(ports, vpm),
+            _ => spread(0),
+        },
+    }
+}
+
+#[tactic(auto, unfolding(crate::specs::IssueStep::counts_after))]
+fn count(access: Option<Access>, counts: &mut Counts)
+    ensures { counts.new ≡ counts_after access counts.old }
+{
     counts.issued = counts.issued.saturating_add(1);
+    match access {
+        Some(Access::LoadAddr) => counts.loads = counts.loads.saturating_add(1),
+        Some(Access::StoreAddr) => counts.stores = counts.stores.saturating_add(1),
+        _ => {}
+    }
+}
+
+#[tactic(auto, unfolding(crate::specs::IssueStep::qpu_after))]
+fn step_qpu(form: &Form, access: Option<Access>, value: u32, results: &Results, q: &mut Qpu)
+    requires access { access ≡ access_of form.now }
+    requires value { value ≡ lane (outgoing form.now results.now) 0 }
+    ensures { q.new ≡ qpu_after form.now q.old results.now }
+{
+    let taken = takes(form, &q.regs);
+    commit(form, results, &mut q.regs);
+    advance(form, taken, &mut q.flow);
+    q.written = written_by(form);
+    use_ports(access, &mut q.ports, value);
+}
+
+/// What is left of a word once it is done.
+#[tactic(auto, unfolding(crate::specs::IssueStep::done, crate::specs::IssueStep::shared_after))]
+fn perform(
+    site: &Site<'_>,
+    form: &Form,
+    q: &mut Qpu,
+    shared: &mut Shared,
+    counts: &mut Counts,
+    results: &Results,
+) -> Effect
+    ensures qpu { q.new ≡ (done site.now form.now q.old shared.old counts.old results.now).qpu }
+    ensures shared { shared.new ≡ (done site.now form.now q.old shared.old counts.old results.now).shared }
+    ensures counts { counts.new ≡ (done site.now form.now q.old shared.old counts.old results.now).counts }
+    ensures effect { result ≡ (done site.now form.now q.old shared.old counts.old results.now).effect }
+{
+    let access = access_of(form);
+    let out = words_out(form, results);
+    use_shared(site, &q.ports, access, &out, shared);
+    count(access, counts);
+    step_qpu(form, access, out[0], results, q);
     Effect::Did
 }
 
-/// An issue of QPU k.
-#[tactic(auto, unfolding(crate::specs::Issue::local, crate::specs::Issue::least_broken))]
-pub fn issue(code: &[u64], k: u32, q: &mut Qpu, counts: &mut Counts) -> Effect
-    ensures qpu { q.new ≡ (local code.now k q.old counts.old).qpu }
-    ensures counts { counts.new ≡ (local code.now k q.old counts.old).counts }
-    ensures effect { result ≡ (local code.now k q.old counts.old).effect }
+/// A word of the profile, with what its units give.
+#[tactic(auto, unfolding(crate::specs::IssueStep::tried, crate::specs::IssueStep::seen_by))]
+fn try_word(
+    site: &Site<'_>,
+    instr: &Instr,
+    q: &mut Qpu,
+    shared: &mut Shared,
+    counts: &mut Counts,
+    results: &Results,
+) -> Effect
+    ensures qpu { q.new ≡ (tried site.now instr.now q.old shared.old counts.old results.now).qpu }
+    ensures shared { shared.new ≡ (tried site.now instr.now q.old shared.old counts.old results.now).shared }
+    ensures counts { counts.new ≡ (tried site.now instr.now q.old shared.old counts.old results.now).counts }
+    ensures effect { result ≡ (tried site.now instr.now q.old shared.old counts.old results.now).effect }
+{
+    let form = &instr.form;
+    let access = access_of(form);
+    let value = words_out(form, results)[0];
+    let seen = see(site, &q.ports, shared, access, value);
+    match first_broken(instr, &remember(q), &seen) {
+        Some(rule) => Effect::Broken {
+            rule,
+            qpu: number_of(site),
+            place: q.flow.place,
+        },
+        None => {
+            if must_wait(access, &seen) {
+                Effect::Stalled
+            } else {
+                perform(site, form, q, shared, counts, results)
+            }
+        }
+    }
+}
+
+/// An issue of one QPU.
+#[tactic(auto, unfolding(crate::specs::IssueStep::local, crate::specs::IssueStep::attempted, crate::specs::IssueStep::given))]
+pub fn issue(
+    code: &[u64],
+    site: &Site<'_>,
+    q: &mut Qpu,
+    shared: &mut Shared,
+    counts: &mut Counts,
+) -> Effect
+    ensures qpu { q.new ≡ (local code.now site.now q.old shared.old counts.old).qpu }
+    ensures shared { shared.new ≡ (local code.now site.now q.old shared.old counts.old).shared }
+    ensures counts { counts.new ≡ (local code.now site.now q.old shared.old counts.old).counts }
+    ensures effect { result ≡ (local code.now site.now q.old shared.old counts.old).effect }
 {
     if q.flow.ended {
         return Effect::Nothing;
     }
     let place = q.flow.place;
-    let Some(form) = fetch(code, place) else {
+    let Some(instr) = fetch(code, place) else {
         return Effect::Broken {
             rule: Rule::H0,
-            qpu: k,
+            qpu: number_of(site),
             place,
         };
     };
-    match broken_rule(&form, &q.flow) {
-        Some(rule) => Effect::Broken {
-            rule,
-            qpu: k,
-            place,
-        },
-        None => perform(&form, q, counts),
-    }
+    let access = access_of(&instr.form);
+    let incoming = arriving(site, &q.ports, &shared.vpm, access);
+    let results = compute(&instr.form, &q.regs, number_of(site), &incoming);
+    try_word(site, &instr, q, shared, counts, &results)
 }

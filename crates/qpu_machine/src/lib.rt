@@ -1,16 +1,19 @@
-//! The machine: QPUs that run instruction words one at a time, under any schedule.
-//!
-//! Today the words that the machine takes are a plain nop and a program end without operations, so
-//! that no word touches a register, the VPM, the mutex or an engine. Every other word breaks `H0`,
-//! the one restriction.
+//! The machine: QPUs that run instruction words one at a time, what they share, and two DMA engines
+//! that move the elements of transfers, under any schedule.
 #![tactic(auto)]
 
+mod generator;
 mod issue;
+mod laws;
 mod machine;
+mod moves;
 mod opening;
 mod plan;
+mod registers;
+mod schedules;
 mod state;
 
+pub use laws::{law_range, law_runs, law_split};
 pub use machine::Machine;
 pub use plan::{Fill, Plan};
 pub use q_lane::Lanes;

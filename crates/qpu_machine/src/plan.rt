@@ -32,10 +32,12 @@ impl Model for Plan {
     } };
 }
 
-/// What registers, accumulators and flags open with.
+/// What registers, accumulators, flags and the VPM open with: zeros, or the numbers that a seed
+/// gives.
 #[derive(Clone, Copy, Debug, PartialEq, Eq)]
 pub enum Fill {
     Zero,
+    Seed(u64),
 }
 
 /// What a run never changes.

@@ -1,7 +1,8 @@
 //! The state of the machine, and what its steps answer.
 
 use q_lane::Lanes;
-use vpm_words::Rule;
+use qpu_rules::Written;
+use vpm_words::{Ports, Rule};
 
 /// One step of the system: an issue of a QPU by its number, or a move of an engine's element by
 /// its number among those left.
@@ -61,20 +62,25 @@ pub struct Regs {
     pub neg: [bool; 16],
 }
 
-/// Where a QPU is. `ending` is how many words are left to it after a program end, 0 before one.
+/// Where a QPU is. `slots` is how many delay slots of a branch are left, after which it goes to
+/// `target`, and `ending` how many words are left to it after a program end; both are 0 elsewhere.
 #[derive(Clone, Copy)]
 pub struct Flow {
     pub place: u32,
     pub ended: bool,
+    pub slots: u8,
+    pub target: u32,
     pub ending: u8,
     pub issued: u64,
 }
 
-/// One QPU.
+/// One QPU: its registers, where it is, what its last word wrote, and its setups.
 #[derive(Clone, Copy)]
 pub struct Qpu {
     pub regs: Regs,
     pub flow: Flow,
+    pub written: Written,
+    pub ports: Ports,
 }
 
 /// A broken restriction: by which QPU, at which word.

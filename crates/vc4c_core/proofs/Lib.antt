@@ -1,7 +1,6 @@
 pub mod Causes
 pub mod ReportLaws
 pub mod SmallLaws
-pub mod ScheduleLaws
 pub mod ModuleLaws
 pub mod LaunchLaws
 mod Numbers

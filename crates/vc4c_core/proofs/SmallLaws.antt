@@ -5,7 +5,7 @@ use Rattle.std.proofs.lemmas.List.{length-replicate}
 use Rattle.qpu_machine.specs.Planned.{Planned, IsPlan, LieIn, AreApart}
 use Rattle.vpm_words.specs.declared.state.Region.{Region}
 use Rattle.vc4c_core.specs.ModuleBytes.{IsCode}
-use Rattle.qpu_machine.specs.Opening.{opening, regs_of}
+use Rattle.qpu_machine.specs.Opening.{opening, contents_of}
 use Rattle.qpu_machine.specs.declared.plan.Fill.TheVariants.{Zero}
 use Rattle.vc4c_core.specs.Small.{gap, small_plan, small_opening}
 
@@ -32,6 +32,7 @@ unfolding small_plan
 small_is_plan words code = record {
   some = lit< tt;
   few = lit< tt;
+  per = lit< tt;
   uniforms = refl;
   scratch = refl;
   code = code.some;
@@ -46,9 +47,9 @@ pub if_ok_map : {T E : Type 0} (result : Result T E) (P Q : T → Type 0) → ((
 if_ok_map (Ok x) P Q h p = h x p
 if_ok_map (Err e) P Q h p = tt
 
-pub opened_small : (plan : Planned) (words : List ℕ) → plan ≡ small_plan words → opening plan (regs_of Zero plan.qpus) ≡ small_opening words
+pub opened_small : (plan : Planned) (words : List ℕ) → plan ≡ small_plan words → opening plan (contents_of Zero plan.qpus) ≡ small_opening words
 unfolding small_opening small_plan
-opened_small plan words e = ap (λ p. opening p (regs_of Zero p.qpus)) e
+opened_small plan words e = ap (λ p. opening p (contents_of Zero p.qpus)) e
 
 -- the small launch has one QPU
 pub small_count : (words : List ℕ) → length (small_opening words).qpus ≡ 1

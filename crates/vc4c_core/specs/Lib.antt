@@ -3,7 +3,6 @@ pub mod Plan
 pub mod Due
 pub mod StatusCode
 pub mod Report
-pub mod Schedule
 pub mod Small
 pub mod ModuleBytes
 pub mod LaunchText

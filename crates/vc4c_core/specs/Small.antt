@@ -1,10 +1,11 @@
 -- The opening of a launch of one QPU and one item without buffers.
 use Rattle.std.specs.Prelude.{ℕ, ◌+◌, ◌*◌, ◌/◌, List, [], ◌∷◌, replicate}
 use Rattle.qpu_machine.specs.Planned.{Planned}
-use Rattle.qpu_machine.specs.Opening.{opening, regs_of}
-use Rattle.qpu_machine.specs.MachineState.{MachineState, machine_run}
+use Rattle.qpu_machine.specs.Opening.{opening, contents_of}
+use Rattle.qpu_machine.specs.MachineState.{MachineState}
+use Rattle.qpu_machine.specs.MachineRun.{machine_run}
+use Rattle.qpu_machine.specs.Schedules.{rounds_of}
 use Rattle.qpu_machine.specs.declared.plan.Fill.TheVariants.{Zero}
-use Rattle.vc4c_core.specs.Schedule.{rounds_of}
 
 -- the first region stands here
 abbrev pub scratch_start : ℕ
@@ -38,9 +39,9 @@ small_plan words =
       scratch = record { start = scratch_start; len = 0 } ∷ [];
     }
 
--- the machine of these words with registers of zeros, before its first step
+-- the machine of these words with zeros in its registers and its VPM, before its first step
 unfoldable pub small_opening : List ℕ → MachineState
-small_opening words = opening (small_plan words) (regs_of Zero 1)
+small_opening words = opening (small_plan words) (contents_of Zero 1)
 
 -- the machine after so many rounds
 unfoldable pub machine_after : List ℕ → ℕ → MachineState

@@ -8,6 +8,25 @@ const NOP: u64 = 0x1000_09E7_009E_7000;
 
 const END: u64 = 0x3000_09E7_009E_7000;
 
+// 5 to r0, and 1 more; 5 to a0, and a0 to r0.
+const SET_R0: u64 = 0xE002_0827_0000_0005;
+
+const ADD_1: u64 = 0xD002_0827_0C9C_11C0;
+
+const SET_A0: u64 = 0xE002_0027_0000_0005;
+
+const READ_A0: u64 = 0x1002_0827_1502_7D80;
+
+// A uniform is read; the mutex is acquired, and released.
+const READ_UNIFORM: u64 = 0x1000_09E7_0082_7000;
+
+const ACQUIRE: u64 = 0x1000_09E7_00CE_7000;
+
+const RELEASE: u64 = 0xE002_0CE7_0000_0000;
+
+// A branch to one word before its own place.
+const BACK: u64 = 0xF0F8_09E7_FFFF_FFD8;
+
 /// A module of four words, byte for byte: a nop, a program end and two nops.
 pub const FOUR_WORDS: [u8; 72] = [
     0x56, 0x43, 0x34, 0x51, 0x01, 0x00, 0x00, 0x00, 0x00, 0x00, 0x00, 0x00, 0x04, 0x00, 0x00, 0x00,
@@ -67,8 +86,14 @@ fn small_launch(alloc: Global, rounds: &str) -> Result<String, AllocError> {
     Ok(text)
 }
 
-/// The report of one QPU: its stop, how many words it did, and its line.
-fn report(alloc: Global, stop: &str, issued: &str, qpu: &str) -> Result<String, AllocError> {
+/// The report of one QPU: its stop, how many words it did, its line, and the word in each element of r0.
+fn report(
+    alloc: Global,
+    stop: &str,
+    issued: &str,
+    qpu: &str,
+    r0: &str,
+) -> Result<String, AllocError> {
     let mut text = String::from_str(alloc, stop)?;
     text.push_str("\nsteps ")?;
     text.push_str(issued)?;
@@ -78,7 +103,8 @@ fn report(alloc: Global, stop: &str, issued: &str, qpu: &str) -> Result<String, 
     text.push_str(qpu)?;
     text.push_str("\nr0")?;
     for _ in 0..16 {
-        text.push_str(" 00000000")?;
+        text.push_str(" ")?;
+        text.push_str(r0)?;
     }
     text.push_str("\n")?;
     Ok(text)
@@ -150,7 +176,7 @@ fn runs_end_as_their_words_say(rt: HostRuntime) -> Result<(), Fail> {
             &[END, NOP, END, NOP, NOP],
             "1000",
             10,
-            "stop broken H0 qpu 0 place 2",
+            "stop broken H6 qpu 0 place 2",
             "2",
             "running place 2 issued 2",
         ),
@@ -171,7 +197,76 @@ fn runs_end_as_their_words_say(rt: HostRuntime) -> Result<(), Fail> {
             &small_launch(alloc, rounds)?,
         )?;
         assert_eq!(rt; code(got), *status, "rounds {rounds}, {stop}");
-        assert!(rt; text.as_slice() == report(alloc, stop, issued, qpu)?.as_bytes());
+        assert!(rt; text.as_slice() == report(alloc, stop, issued, qpu, "00000000")?.as_bytes());
+    }
+    Ok(())
+}
+
+#[test]
+fn words_compute_and_break_restrictions(rt: HostRuntime) -> Result<(), Fail> {
+    let alloc = rt.alloc();
+    let rows: &[(&[u64], u8, &str, &str, &str, &str)] = &[
+        (
+            &[SET_R0, ADD_1, END, NOP, NOP],
+            0,
+            "stop finished",
+            "5",
+            "ended place 5 issued 5",
+            "00000006",
+        ),
+        (
+            &[SET_A0, READ_A0, END, NOP, NOP],
+            10,
+            "stop broken H1 qpu 0 place 1",
+            "1",
+            "running place 1 issued 1",
+            "00000000",
+        ),
+        (
+            &[SET_A0, NOP, READ_A0, END, NOP, NOP],
+            0,
+            "stop finished",
+            "6",
+            "ended place 6 issued 6",
+            "00000005",
+        ),
+        (
+            &[END, NOP, READ_UNIFORM],
+            10,
+            "stop broken H7 qpu 0 place 2",
+            "2",
+            "running place 2 issued 2",
+            "00000000",
+        ),
+        (
+            &[ACQUIRE, ACQUIRE],
+            10,
+            "stop broken H8 qpu 0 place 1",
+            "1",
+            "running place 1 issued 1",
+            "00000000",
+        ),
+        (
+            &[RELEASE],
+            10,
+            "stop broken H8 qpu 0 place 0",
+            "0",
+            "running place 0 issued 0",
+            "00000000",
+        ),
+        (
+            &[BACK, NOP, NOP, NOP],
+            10,
+            "stop broken H0 qpu 0 place 4294967295",
+            "4",
+            "running place 4294967295 issued 4",
+            "00000000",
+        ),
+    ];
+    for (code_words, status, stop, issued, qpu, r0) in rows {
+        let (got, text) = answer(alloc, "exec m l", &module(alloc, code_words)?, LAUNCH)?;
+        assert_eq!(rt; code(got), *status, "{stop}");
+        assert!(rt; text.as_slice() == report(alloc, stop, issued, qpu, r0)?.as_bytes());
     }
     Ok(())
 }

@@ -1,6 +1,6 @@
 use Rattle.std.proofs.Common.{ap, sym, ◌∙◌, subst, length}
-use Rattle.qpu_machine.specs.MachineState.{IsIdle}
-use Rattle.qpu_machine.proofs.Steps.{happens_idle, happens_stopped, happens_count, happens_fixed}
+use Rattle.qpu_machine.specs.MachineRun.{IsIdle}
+use Rattle.qpu_machine.proofs.Steps.{happens_idle, happens_stopped, happens_count, happens_fixed, happens_size}
 use Rattle.qpu_machine.proofs.Nothing.{nothing_only, nothing_where}
 use Rattle.qpu_machine.proofs.machine.Machine.step.Goals as goal
 
@@ -16,4 +16,5 @@ returns c =
       stopped = λ h. c.take_step.ensures.effect ∙ happens_stopped before step h;
       fixed = ap (λ s. s.fixed) c.take_step.ensures.state ∙ happens_fixed before step;
       count = ap (λ s. length s.qpus) c.take_step.ensures.state ∙ happens_count before step;
+      size = ap (λ s. length s.memory) c.take_step.ensures.state ∙ happens_size before step;
     }

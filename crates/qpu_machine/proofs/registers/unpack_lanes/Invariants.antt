@@ -1,0 +1,8 @@
+use Rattle.std.proofs.Common.{◌≡◌, ℕ, ◌<◌, length}
+use Rattle.std.specs.Prelude.{length}
+use Rattle.q_lane.specs.Vectors.{lane}
+use Rattle.qpu_encode.specs.Operations.{unpacked}
+use Rattle.qpu_machine.proofs.registers.unpack_lanes.Given as goal
+
+abbrev pub invariant-loop-i : goal.invariant-loop-i
+invariant-loop-i l = (length l.words ≡ 16) × ((k : ℕ) → k < l.i → lane l.words k ≡ unpacked l.unpack (lane l.xs k))

@@ -1,8 +1,0 @@
-use Rattle.std.proofs.Common.{◌≡◌, map}
-use Rattle.std.specs.List.{range_with_len}
-use Rattle.qpu_machine.specs.declared.state.Step.TheVariants.{Issue}
-use Rattle.qpu_machine.specs.MachineState.{machine_run}
-use Rattle.vc4c_core.proofs.play.play_round.Given as goal
-
-abbrev pub invariant-loop-k : goal.invariant-loop-k
-invariant-loop-k l = machine_run (map Issue (range_with_len 0 l.k)) l.initial.machine ≡ l.machine

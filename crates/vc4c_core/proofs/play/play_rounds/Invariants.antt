@@ -1,7 +1,0 @@
-use Rattle.std.proofs.Common.{◌≡◌, ◌-◌}
-use Rattle.qpu_machine.specs.MachineState.{machine_run}
-use Rattle.vc4c_core.specs.Schedule.{rounds_of}
-use Rattle.vc4c_core.proofs.play.play_rounds.Given as goal
-
-abbrev pub invariant-loop-round : goal.invariant-loop-round
-invariant-loop-round l = machine_run (rounds_of (l.rounds - l._round) l.qpus) l.machine ≡ machine_run (rounds_of l.rounds l.qpus) l.initial.machine
