@@ -175,26 +175,51 @@ fn step_qpu(form: &Form, access: Option<Access>, value: u32, results: &Results, 
     use_ports(access, &mut q.ports, value);
 }
 
+/// What a word gives before it is judged: its one access, what its units give, and what goes to a peripheral.
+#[derive(Clone, Copy)]
+struct Given {
+    access: Option<Access>,
+    results: Results,
+    out: [u32; 16],
+}
+
+#[tactic(auto, unfolding(crate::specs::IssueStep::given))]
+fn give(site: &Site<'_>, form: &Form, q: &Qpu, vpm: &[[u32; 16]; 64]) -> Given
+    ensures access { result.access ≡ access_of form.now }
+    ensures results { result.results ≡ given site.now form.now q.now (row_of q.now.ports vpm.now) }
+    ensures out { result.out ≡ outgoing form.now result.results }
+{
+    let access = access_of(form);
+    let incoming = arriving(site, &q.ports, vpm, access);
+    let results = compute(form, &q.regs, number_of(site), &incoming);
+    let out = words_out(form, &results);
+    Given {
+        access,
+        results,
+        out,
+    }
+}
+
 /// What is left of a word once it is done.
 #[tactic(auto, unfolding(crate::specs::IssueStep::done, crate::specs::IssueStep::shared_after))]
 fn perform(
     site: &Site<'_>,
     form: &Form,
+    word: &Given,
     q: &mut Qpu,
     shared: &mut Shared,
     counts: &mut Counts,
-    results: &Results,
 ) -> Effect
-    ensures qpu { q.new ≡ (done site.now form.now q.old shared.old counts.old results.now).qpu }
-    ensures shared { shared.new ≡ (done site.now form.now q.old shared.old counts.old results.now).shared }
-    ensures counts { counts.new ≡ (done site.now form.now q.old shared.old counts.old results.now).counts }
-    ensures effect { result ≡ (done site.now form.now q.old shared.old counts.old results.now).effect }
+    requires access { word.now.access ≡ access_of form.now }
+    requires out { word.now.out ≡ outgoing form.now word.now.results }
+    ensures qpu { q.new ≡ (done site.now form.now q.old shared.old counts.old word.now.results).qpu }
+    ensures shared { shared.new ≡ (done site.now form.now q.old shared.old counts.old word.now.results).shared }
+    ensures counts { counts.new ≡ (done site.now form.now q.old shared.old counts.old word.now.results).counts }
+    ensures effect { result ≡ (done site.now form.now q.old shared.old counts.old word.now.results).effect }
 {
-    let access = access_of(form);
-    let out = words_out(form, results);
-    use_shared(site, &q.ports, access, &out, shared);
-    count(access, counts);
-    step_qpu(form, access, out[0], results, q);
+    use_shared(site, &q.ports, word.access, &word.out, shared);
+    count(word.access, counts);
+    step_qpu(form, word.access, word.out[0], &word.results, q);
     Effect::Did
 }
 
@@ -203,20 +228,19 @@ fn perform(
 fn try_word(
     site: &Site<'_>,
     instr: &Instr,
+    word: &Given,
     q: &mut Qpu,
     shared: &mut Shared,
     counts: &mut Counts,
-    results: &Results,
 ) -> Effect
-    ensures qpu { q.new ≡ (tried site.now instr.now q.old shared.old counts.old results.now).qpu }
-    ensures shared { shared.new ≡ (tried site.now instr.now q.old shared.old counts.old results.now).shared }
-    ensures counts { counts.new ≡ (tried site.now instr.now q.old shared.old counts.old results.now).counts }
-    ensures effect { result ≡ (tried site.now instr.now q.old shared.old counts.old results.now).effect }
+    requires access { word.now.access ≡ access_of instr.now }
+    requires out { word.now.out ≡ outgoing instr.now word.now.results }
+    ensures qpu { q.new ≡ (tried site.now instr.now q.old shared.old counts.old word.now.results).qpu }
+    ensures shared { shared.new ≡ (tried site.now instr.now q.old shared.old counts.old word.now.results).shared }
+    ensures counts { counts.new ≡ (tried site.now instr.now q.old shared.old counts.old word.now.results).counts }
+    ensures effect { result ≡ (tried site.now instr.now q.old shared.old counts.old word.now.results).effect }
 {
-    let form = &instr.form;
-    let access = access_of(form);
-    let value = words_out(form, results)[0];
-    let seen = see(site, &q.ports, shared, access, value);
+    let seen = see(site, &q.ports, shared, word.access, word.out[0]);
     match first_broken(instr, &remember(q), &seen) {
         Some(rule) => Effect::Broken {
             rule,
@@ -224,17 +248,17 @@ fn try_word(
             place: q.flow.place,
         },
         None => {
-            if must_wait(access, &seen) {
+            if must_wait(word.access, &seen) {
                 Effect::Stalled
             } else {
-                perform(site, form, q, shared, counts, results)
+                perform(site, &instr.form, word, q, shared, counts)
             }
         }
     }
 }
 
 /// An issue of one QPU.
-#[tactic(auto, unfolding(crate::specs::IssueStep::local, crate::specs::IssueStep::attempted, crate::specs::IssueStep::given))]
+#[tactic(auto, unfolding(crate::specs::IssueStep::local, crate::specs::IssueStep::attempted))]
 pub fn issue(
     code: &[u64],
     site: &Site<'_>,
@@ -258,8 +282,6 @@ pub fn issue(
             place,
         };
     };
-    let access = access_of(&instr.form);
-    let incoming = arriving(site, &q.ports, &shared.vpm, access);
-    let results = compute(&instr.form, &q.regs, number_of(site), &incoming);
-    try_word(site, &instr, q, shared, counts, &results)
+    let word = give(site, &instr.form, q, &shared.vpm);
+    try_word(site, &instr, &word, q, shared, counts)
 }

@@ -100,7 +100,9 @@ fn unpack_each(unpack: u8, xs: &[u32; 16]) -> [u32; 16]
     }
 }
 
-fn add_lanes(op: AddOp, xs: &[u32; 16], ys: &[u32; 16]) -> [u32; 16]
+// The operation is the same for all lanes: with its name written out at the call, the loop holds no choice.
+#[inline(always)]
+fn add_each(op: AddOp, xs: &[u32; 16], ys: &[u32; 16]) -> [u32; 16]
     ensures { result ≡ lanes 16 (λ i. add_value op (lane xs.now i) (lane ys.now i)) }
 {
     let mut words = [0; 16];
@@ -110,7 +112,32 @@ fn add_lanes(op: AddOp, xs: &[u32; 16], ys: &[u32; 16]) -> [u32; 16]
     words
 }
 
-fn mul_lanes(op: MulOp, xs: &[u32; 16], ys: &[u32; 16]) -> [u32; 16]
+fn add_lanes(op: AddOp, xs: &[u32; 16], ys: &[u32; 16]) -> [u32; 16]
+    ensures { result ≡ lanes 16 (λ i. add_value op (lane xs.now i) (lane ys.now i)) }
+{
+    match op {
+        AddOp::Nop => add_each(AddOp::Nop, xs, ys),
+        AddOp::Add => add_each(AddOp::Add, xs, ys),
+        AddOp::Sub => add_each(AddOp::Sub, xs, ys),
+        AddOp::Shr => add_each(AddOp::Shr, xs, ys),
+        AddOp::Asr => add_each(AddOp::Asr, xs, ys),
+        AddOp::Ror => add_each(AddOp::Ror, xs, ys),
+        AddOp::Shl => add_each(AddOp::Shl, xs, ys),
+        AddOp::Min => add_each(AddOp::Min, xs, ys),
+        AddOp::Max => add_each(AddOp::Max, xs, ys),
+        AddOp::And => add_each(AddOp::And, xs, ys),
+        AddOp::Or => add_each(AddOp::Or, xs, ys),
+        AddOp::Xor => add_each(AddOp::Xor, xs, ys),
+        AddOp::Not => add_each(AddOp::Not, xs, ys),
+        AddOp::Clz => add_each(AddOp::Clz, xs, ys),
+        AddOp::Mul32 => add_each(AddOp::Mul32, xs, ys),
+        AddOp::MulHs => add_each(AddOp::MulHs, xs, ys),
+        AddOp::MulHu => add_each(AddOp::MulHu, xs, ys),
+    }
+}
+
+#[inline(always)]
+fn mul_each(op: MulOp, xs: &[u32; 16], ys: &[u32; 16]) -> [u32; 16]
     ensures { result ≡ lanes 16 (λ i. mul_value op (lane xs.now i) (lane ys.now i)) }
 {
     let mut words = [0; 16];
@@ -118,6 +145,16 @@ fn mul_lanes(op: MulOp, xs: &[u32; 16], ys: &[u32; 16]) -> [u32; 16]
         words[i] = mul_value(op, xs[i], ys[i]);
     }
     words
+}
+
+fn mul_lanes(op: MulOp, xs: &[u32; 16], ys: &[u32; 16]) -> [u32; 16]
+    ensures { result ≡ lanes 16 (λ i. mul_value op (lane xs.now i) (lane ys.now i)) }
+{
+    match op {
+        MulOp::Nop => mul_each(MulOp::Nop, xs, ys),
+        MulOp::Mul24 => mul_each(MulOp::Mul24, xs, ys),
+        MulOp::V8Min => mul_each(MulOp::V8Min, xs, ys),
+    }
 }
 
 #[tactic(auto, unfolding(crate::specs::Operations::add_result))]
@@ -201,8 +238,9 @@ pub fn words_out(form: &Form, outputs: &Results) -> [u32; 16]
     }
 }
 
+#[inline(always)]
 #[tactic(auto, unfolding(crate::specs::Operations::written))]
-fn blend(
+fn blend_each(
     cond: Cond,
     zero: &[bool; 16],
     neg: &[bool; 16],
@@ -220,6 +258,25 @@ fn blend(
         };
     }
     words
+}
+
+fn blend(
+    cond: Cond,
+    zero: &[bool; 16],
+    neg: &[bool; 16],
+    old: &[u32; 16],
+    new: &[u32; 16],
+) -> [u32; 16]
+    ensures { result ≡ written cond zero.now neg.now old.now new.now }
+{
+    match cond {
+        Cond::Never => blend_each(Cond::Never, zero, neg, old, new),
+        Cond::Always => blend_each(Cond::Always, zero, neg, old, new),
+        Cond::Zs => blend_each(Cond::Zs, zero, neg, old, new),
+        Cond::Zc => blend_each(Cond::Zc, zero, neg, old, new),
+        Cond::Ns => blend_each(Cond::Ns, zero, neg, old, new),
+        Cond::Nc => blend_each(Cond::Nc, zero, neg, old, new),
+    }
 }
 
 #[tactic(auto, unfolding(crate::specs::Operations::after_write, crate::specs::Operations::write_register))]

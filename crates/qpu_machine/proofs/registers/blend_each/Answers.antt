@@ -4,7 +4,7 @@ use Rattle.q_lane.specs.Vectors.{lane}
 use Rattle.q_lane.proofs.VectorLaws.{lanes-is}
 use Rattle.qpu_machine.specs.Operations.{written}
 use Rattle.qpu_encode.specs.Operations.{passes}
-use Rattle.qpu_machine.proofs.registers.blend.Goals as goal
+use Rattle.qpu_machine.proofs.registers.blend_each.Goals as goal
 
 pub returns : goal.returns
 unfolding written
