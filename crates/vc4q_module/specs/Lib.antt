@@ -1,0 +1,2 @@
+pub mod ModuleBytes
+pub mod Laws
