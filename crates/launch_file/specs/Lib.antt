@@ -1,0 +1,13 @@
+pub mod Launches
+pub mod Layout
+pub mod Uniforms
+pub mod Fit
+pub mod Laws
+pub mod Words
+pub mod LineText
+pub mod LaunchIn
+pub mod Rules
+pub mod LaunchText
+pub mod Views
+pub mod Reading
+pub mod HeadReading
