@@ -5,12 +5,12 @@ use Rattle.q_io.specs.SinkMeaning.{SinkState, PutsAll}
 use Rattle.q_io.specs.declared.Put.{Put}
 use Rattle.q_io.specs.declared.Put.TheVariants.{Done as WasPut, Failed as PutFailed, Memory as PutShort}
 use Rattle.vc4c_core.specs.Lines.{Says, SaysTrouble, status_after}
-use Rattle.vc4c_core.specs.Plan.{Plan, reads, commits, answers, Answer, done, bad_module, bad_launch, broken, unfinished, status_of, Ends, ReadTrouble}
+use Rattle.vc4c_core.specs.Plan.{Plan, reads, writes, commits, answers, Answer, done, bad_module, bad_launch, broken, unfinished, status_of, Ends, ReadTrouble, WriteTrouble}
 use Rattle.vc4c_core.proofs.Causes.{EndCause}
 use Rattle.vc4c_core.specs.declared.status.Status.{Status}
 use Rattle.vc4c_core.specs.declared.status.Status.TheVariants.{Done, Memory, Usage, ReadFault, WriteFault, Missing, TooLong, Refused, BadModule, BadLaunch, Broken, Unfinished, NotSafe}
 use Rattle.vc4c_core.specs.declared.places.Trouble.{Trouble}
-use Rattle.vc4c_core.specs.declared.places.Trouble.TheVariants.{Missing as IsMissing, TooLong as IsTooLong, ReadFault as IsReadFault, Memory as IsMemory}
+use Rattle.vc4c_core.specs.declared.places.Trouble.TheVariants.{Missing as IsMissing, TooLong as IsTooLong, ReadFault as IsReadFault, WriteFault as IsWriteFault, Memory as IsMemory}
 
 -- what rose in a part of the run rose in the whole
 earlier : (asks : Bool) (first before now : FilesState) (out_before out_now : SinkState) (status : Status) → FilesCountsStay first before → EndCause asks before out_before now out_now status → EndCause asks first out_before now out_now status
@@ -68,7 +68,16 @@ read_caused : (asks : Bool) (before now : FilesState) (out_before out_now : Sink
 read_caused asks before now out_before out_now name limit IsMissing result c says = says_caused asks before now out_before out_now _ Missing result says c.0
 read_caused asks before now out_before out_now name limit IsTooLong result c says = says_caused asks before now out_before out_now _ TooLong result says c.0
 read_caused asks before now out_before out_now name limit IsReadFault result c says = says_caused asks before now out_before out_now _ ReadFault result says c
+read_caused asks before now out_before out_now name limit IsWriteFault result c says = absurd c
 read_caused asks before now out_before out_now name limit IsMemory result c says = subst (λ s. EndCause asks before out_before now out_now s) (sym says.1) (inr (inl c))
+
+write_caused : (asks : Bool) (before now : FilesState) (out_before out_now : SinkState) (name : List ℕ) (trouble : Trouble) (result : Status)
+    → WriteTrouble before now trouble → SaysTrouble out_before out_now trouble name result → EndCause asks before out_before now out_now result
+write_caused asks before now out_before out_now name IsMissing result c says = absurd c
+write_caused asks before now out_before out_now name IsTooLong result c says = absurd c
+write_caused asks before now out_before out_now name IsReadFault result c says = absurd c
+write_caused asks before now out_before out_now name IsWriteFault result c says = says_caused asks before now out_before out_now _ WriteFault result says (inl c)
+write_caused asks before now out_before out_now name IsMemory result c says = subst (λ s. EndCause asks before out_before now out_now s) (sym says.1) (inr (inl c))
 
 gave_up : (asks : Bool) (before now : FilesState) (out_before out_now : SinkState) (result : Status) → asks ≡ true → result ≡ Memory → out_now ≡ out_before → EndCause asks before out_before now out_now result
 gave_up asks before now out_before out_now result may e same = subst (λ s. EndCause asks before out_before now out_now s) (sym e) (inl (may, same))
@@ -79,6 +88,11 @@ ends_caused asks (reads name limit next) before out_before now out_now result (i
     read_caused asks before now out_before out_now name limit h.trouble result h.cause h.says
 ends_caused asks (reads name limit next) before out_before now out_now result (inr (inr h)) =
     earlier asks before h.1 now out_before out_now result h.2.counts (ends_caused asks (next h.0) h.1 out_before now out_now result h.3)
+ends_caused asks (writes name bytes next) before out_before now out_now result (inl h) = gave_up asks before now out_before out_now result h.may h.is h.out
+ends_caused asks (writes name bytes next) before out_before now out_now result (inr (inl h)) =
+    write_caused asks before now out_before out_now name h.trouble result h.cause h.says
+ends_caused asks (writes name bytes next) before out_before now out_now result (inr (inr h)) =
+    earlier asks before h.0 now out_before out_now result h.1.counts (ends_caused asks next h.0 out_before now out_now result h.2)
 ends_caused asks (commits next) before out_before now out_now result (inl h) = gave_up asks before now out_before out_now result h.may h.is h.out
 ends_caused asks (commits next) before out_before now out_now result (inr h) =
     no_longer_asks asks before now out_before out_now result (ends_caused false next before out_before now out_now result h)

@@ -1,14 +1,14 @@
 -- The clauses of the top call, from a run of the places.
-use Rattle.std.proofs.Common.{◌≡◌, ◌⊎◌, inl, inr, ℕ, Bool, true, false, List, refl, sym, ap, ◌∙◌, subst}
-use Rattle.std.specs.Prelude.{Option, Some, None, IfSome}
+use Rattle.std.proofs.Common.{◌≡◌, ◌⊎◌, inl, inr, ℕ, Bool, true, false, cond, List, [], ◌∷◌, ◌++◌, refl, sym, ap, ◌∙◌, subst}
+use Rattle.std.specs.Prelude.{Option, Some, None, IfSome, bytes_eq}
 use Rattle.q_io.specs.Rose.{Rose}
-use Rattle.q_io.specs.FilesMeaning.{Tree, FilesState}
+use Rattle.q_io.specs.FilesMeaning.{Tree, with_file, FilesState}
 use Rattle.q_io.specs.SinkMeaning.{SinkState, PutsAll}
 use Rattle.q_io.specs.declared.Put.{Put}
 use Rattle.q_io.specs.declared.Put.TheVariants.{Done as WasPut, Failed as PutFailed, Memory as PutShort}
 use Rattle.vc4c_core.specs.Lines.{Says, SaysTrouble, status_after}
-use Rattle.vc4c_core.specs.Plan.{Plan, reads, commits, answers, Ends}
-use Rattle.vc4c_core.specs.Due.{Place, read, commit, Due, EndsAsDue, StoppedAt, IsQuiet, name_of}
+use Rattle.vc4c_core.specs.Plan.{Plan, Ends}
+use Rattle.vc4c_core.specs.Due.{Place, read, write, commit, Due, EndsAsDue, StoppedAt, IsQuiet, OnlyWrites, name_of, after, spares, due_of}
 use Rattle.vc4c_core.specs.Commands.{Runs, due_for, usage_line}
 use Rattle.vc4c_core.proofs.Causes.{EndCause}
 use Rattle.vc4c_core.proofs.EndsAsDue.{ends_as_due}
@@ -42,16 +42,18 @@ says_quiet : (before now : SinkState) (line : List ℕ) (status result : Status)
 says_quiet before now line status result q says =
     elim (put_quiet before now line status says.put q says.taken) [ inl e ↦ inl (says.is ∙ e) | inr e ↦ inr (says.is ∙ e) ]
 
-fault_quiet : (place : Place) (before now : FilesState) (out_before out_now : SinkState) (name : List ℕ) (trouble : Trouble) (result : Status)
-    → IsQuiet before out_before now out_now → StoppedAt place before now trouble → SaysTrouble out_before out_now trouble name result → result ≡ Memory
-fault_quiet (read place_name) before now out_before out_now name trouble result q h says =
-    elim h [ inl rose ↦ absurd (q.reads rose.1) | inr short ↦ (subst (λ t. SaysTrouble out_before out_now t name result) short.0 says).1 ]
-fault_quiet commit before now out_before out_now name trouble result q h says = absurd h
+fault_quiet : (place : Place) (tree : Tree) (before now : FilesState) (out_before out_now : SinkState) (name : List ℕ) (trouble : Trouble) (result : Status)
+    → IsQuiet before out_before now out_now → StoppedAt place tree before now trouble → SaysTrouble out_before out_now trouble name result → result ≡ Memory
+fault_quiet (read place_name) tree before now out_before out_now name trouble result q h says =
+    elim h.1 [ inl rose ↦ absurd (q.reads rose.1) | inr short ↦ (subst (λ t. SaysTrouble out_before out_now t name result) short.0 says).1 ]
+fault_quiet (write place_name bytes) tree before now out_before out_now name trouble result q h says =
+    elim h.1 [ inl rose ↦ absurd (q.writes rose.1) | inr short ↦ (subst (λ t. SaysTrouble out_before out_now t name result) short.0 says).1 ]
+fault_quiet commit tree before now out_before out_now name trouble result q h says = absurd h
 
 due_quiet : (asks : Bool) (due : Due) (tree : Tree) (before : FilesState) (out_before : SinkState) (now : FilesState) (out_now : SinkState) (result : Status)
     → EndsAsDue asks due tree before out_before now out_now result → IsQuiet before out_before now out_now → (result ≡ due.status) ⊎ (result ≡ Memory)
 due_quiet asks due tree before out_before now out_now result (inl h) q = says_quiet out_before out_now due.line due.status result q.sink h.says
-due_quiet asks due tree before out_before now out_now result (inr (inl h)) q = inr (fault_quiet h.place before now out_before out_now (name_of h.place) h.trouble result q h.stopped h.says)
+due_quiet asks due tree before out_before now out_now result (inr (inl h)) q = inr (fault_quiet h.place _ before now out_before out_now (name_of h.place) h.trouble result q h.stopped h.says)
 due_quiet asks due tree before out_before now out_now result (inr (inr h)) q = inr h.is
 
 pub runs_quiet : (plan : Option Plan) (before : FilesState) (out_before : SinkState) (now : FilesState) (out_now : SinkState) (result : Status)
@@ -132,19 +134,92 @@ pub runs_no_form : (plan : Option Plan) (before : FilesState) (out_before : Sink
     → Runs plan before out_before now out_now result → plan ≡ None → (now ≡ before) × Says out_before out_now usage_line Usage result
 runs_no_form plan before out_before now out_now result h e = subst (λ p. Runs p before out_before now out_now result) e h
 
--- no plan changes a file
-ends_files : (asks : Bool) (plan : Plan) (before : FilesState) (out_before : SinkState) (now : FilesState) (out_now : SinkState) (result : Status)
-    → Ends asks plan before out_before now out_now result → now.told ≡ before.told
-ends_files asks (reads name limit next) before out_before now out_now result (inl h) = ap (λ f. f.told) h.files
-ends_files asks (reads name limit next) before out_before now out_now result (inr (inl h)) = h.files
-ends_files asks (reads name limit next) before out_before now out_now result (inr (inr h)) =
-    ends_files asks (next h.0) h.1 out_before now out_now result h.3 ∙ h.2.files
-ends_files asks (commits next) before out_before now out_now result (inl h) = ap (λ f. f.told) h.files
-ends_files asks (commits next) before out_before now out_now result (inr h) = ends_files false next before out_before now out_now result h
-ends_files asks (answers answer line) before out_before now out_now result (inl h) = ap (λ f. f.told) h.files
-ends_files asks (answers answer line) before out_before now out_now result (inr h) = ap (λ f. f.told) h.0
+-- a file that these places spare is the same after them
+spares_same : (content : Option (List ℕ)) (name other : List ℕ) (places : List Place) (tree : Tree)
+    → cond (bytes_eq other name) false (spares name places) ≡ true → with_file other content tree name ≡ tree name
+spares_same content name other places tree h = spared_case (bytes_eq other name) h
+  where
+    spared_case : (same : Bool) → cond same false (spares name places) ≡ true → cond same content (tree name) ≡ tree name
+    spared_case true e = absurd (let no : false ≡ true = e in cc)
+    spared_case false e = refl
 
+spares_rest : (same : Bool) (rest : Bool) → cond same false rest ≡ true → rest ≡ true
+spares_rest true rest e = absurd (let no : false ≡ true = e in cc)
+spares_rest false rest e = e
+
+spares_both : (same : Bool) (rest other : Bool) → (rest ≡ true → other ≡ true) → cond same false rest ≡ true → cond same false other ≡ true
+spares_both true rest other h e = e
+spares_both false rest other h e = h e
+
+after_spares : (places : List Place) (tree : Tree) (name : List ℕ) → spares name places ≡ true → after places tree name ≡ tree name
+after_spares [] tree name h = refl
+after_spares (read other ∷ places) tree name h = after_spares places tree name h
+after_spares (write other bytes ∷ places) tree name h =
+    after_spares places (with_file other (Some bytes) tree) name (spares_rest (bytes_eq other name) (spares name places) h) ∙ spares_same (Some bytes) name other places tree h
+after_spares (commit ∷ places) tree name h = after_spares places tree name h
+
+-- what is spared by places is spared by the first of them
+spares_first : (first rest : List Place) (name : List ℕ) → spares name (first ++ rest) ≡ true → spares name first ≡ true
+spares_first [] rest name h = refl
+spares_first (read other ∷ first) rest name h = spares_first first rest name h
+spares_first (write other bytes ∷ first) rest name h = spares_both (bytes_eq other name) _ _ (λ e. spares_first first rest name e) h
+spares_first (commit ∷ first) rest name h = spares_first first rest name h
+
+spares_last : (first rest : List Place) (name : List ℕ) → spares name (first ++ rest) ≡ true → spares name rest ≡ true
+spares_last [] rest name h = h
+spares_last (read other ∷ first) rest name h = spares_last first rest name h
+spares_last (write other bytes ∷ first) rest name h = spares_last first rest name (spares_rest (bytes_eq other name) (spares name (first ++ rest)) h)
+spares_last (commit ∷ first) rest name h = spares_last first rest name h
+
+stopped_spares : (place : Place) (passed rest : List Place) (tree : Tree) (before now : FilesState) (trouble : Trouble)
+    → StoppedAt place (after passed tree) before now trouble → OnlyWrites (passed ++ place ∷ rest) tree now
+stopped_spares (read other) passed rest tree before now trouble h = record {
+  left = after passed tree;
+  told = h.0;
+  others = λ name spared. after_spares passed tree name (spares_first passed _ name spared);
+}
+stopped_spares (write other bytes) passed rest tree before now trouble h = record {
+  left = with_file other h.0.0 (after passed tree);
+  told = h.0.1;
+  others = λ name spared. spares_same h.0.0 name other rest (after passed tree) (spares_last passed _ name spared) ∙ after_spares passed tree name (spares_first passed _ name spared);
+}
+stopped_spares commit passed rest tree before now trouble h = absurd h
+
+due_files : (asks : Bool) (due : Due) (tree : Tree) (before : FilesState) (out_before : SinkState) (now : FilesState) (out_now : SinkState) (result : Status)
+    → EndsAsDue asks due tree before out_before now out_now result → OnlyWrites due.places tree now
+due_files asks due tree before out_before now out_now result (inl h) = record { left = after due.places tree; told = h.files; others = λ name spared. after_spares due.places tree name spared }
+due_files asks due tree before out_before now out_now result (inr (inl h)) =
+    subst (λ places. OnlyWrites places tree now) (sym h.order) (stopped_spares h.place h.passed h.rest tree before now h.trouble h.stopped)
+due_files asks due tree before out_before now out_now result (inr (inr h)) = record {
+  left = after h.passed tree;
+  told = h.files;
+  others = λ name spared. after_spares h.passed tree name (spares_first h.passed h.rest name (subst (λ places. spares name places ≡ true) h.order spared));
+}
+
+-- only the files that are due to be written may change
 pub runs_files : (plan : Option Plan) (before : FilesState) (out_before : SinkState) (now : FilesState) (out_now : SinkState) (result : Status)
-    → Runs plan before out_before now out_now result → now.told ≡ before.told
-runs_files None before out_before now out_now result h = ap (λ f. f.told) h.0
-runs_files (Some plan) before out_before now out_now result h = ends_files true plan before out_before now out_now result h
+    → Runs plan before out_before now out_now result
+    → IfSome before.told (λ tree. OnlyWrites (due_for plan tree).places tree now)
+runs_files plan before out_before now out_now result h =
+    if_told before.told _ (λ tree told. due_files true (due_for plan tree) tree before out_before now out_now result (runs_due_at plan tree before out_before now out_now result told h))
+
+-- the same of a plan, as of `play`
+pub plan_due : (asks : Bool) (plan : Plan) (before : FilesState) (out_before : SinkState) (now : FilesState) (out_now : SinkState) (result : Status)
+    → Ends asks plan before out_before now out_now result
+    → IfSome before.told (λ tree. EndsAsDue asks (due_of plan tree) tree before out_before now out_now result)
+plan_due asks plan before out_before now out_now result h = if_told before.told _ (λ tree told. ends_as_due asks plan tree before out_before now out_now result told h)
+
+pub record PlayCaused (before : FilesState) (out_before : SinkState) (now : FilesState) (out_now : SinkState) (result : Status) : Type 0 where
+  pub memory : result ≡ Memory → Rose before.shortages now.shortages ⊎ Rose out_before.shortages out_now.shortages
+  pub write_fault : result ≡ WriteFault → Rose before.write_faults now.write_faults ⊎ Rose out_before.faults out_now.faults
+
+no_asking : (A B : Type 0) → ((false ≡ true) × A) ⊎ B → B
+no_asking A B (inl h) = absurd (let no : false ≡ true = h.0 in cc)
+no_asking A B (inr b) = b
+
+pub play_caused : (plan : Plan) (before : FilesState) (out_before : SinkState) (now : FilesState) (out_now : SinkState) (result : Status)
+    → Ends false plan before out_before now out_now result → PlayCaused before out_before now out_now result
+play_caused plan before out_before now out_now result h = record {
+  memory = λ e. no_asking _ _ (subst (λ s. EndCause false before out_before now out_now s) e (ends_caused false plan before out_before now out_now result h));
+  write_fault = λ e. subst (λ s. EndCause false before out_before now out_now s) e (ends_caused false plan before out_before now out_now result h);
+}

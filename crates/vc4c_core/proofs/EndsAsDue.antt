@@ -1,23 +1,25 @@
 -- A run of a plan ends as is due, where the files are told.
 use Rattle.std.proofs.Common.{◌≡◌, inl, inr, ℕ, ◌≤◌, ◌<◌, Bool, true, false, List, [], ◌∷◌, length, refl, sym, ap, ◌∙◌, subst, arith, cond, rules, tests}
-use Rattle.std.specs.Prelude.{Option, Some, None, IfSome, nat_le}
-use Rattle.q_io.specs.FilesMeaning.{Tree, FilesState, FilesCountsStay}
+use Rattle.std.specs.Prelude.{Option, Some, None, IfSome, option_map, nat_le}
+use Rattle.q_io.specs.FilesMeaning.{Tree, with_file, FilesState, FilesCountsStay}
 use Rattle.q_io.specs.SinkMeaning.{SinkState}
 use Rattle.vc4c_core.specs.Lines.{SaysTrouble}
-use Rattle.vc4c_core.specs.Plan.{Plan, reads, commits, answers, Ends, GivesUp, ReadTrouble}
-use Rattle.vc4c_core.specs.Due.{Place, read, commit, Due, then_due, trouble_due, due_read, due_of, StoppedAt, EndsAsDue}
+use Rattle.vc4c_core.specs.Plan.{Plan, reads, writes, commits, answers, Ends, GivesUp, StopsAtWrite, ReadTrouble, WriteTrouble}
+use Rattle.vc4c_core.specs.Due.{Place, read, write, commit, Due, then_due, trouble_due, due_read, due_of, StoppedAt, EndsAsDue}
 use Rattle.vc4c_core.specs.declared.status.Status.{Status}
 use Rattle.vc4c_core.specs.declared.places.Trouble.{Trouble}
-use Rattle.vc4c_core.specs.declared.places.Trouble.TheVariants.{Missing as IsMissing, TooLong as IsTooLong, ReadFault as IsReadFault, Memory as IsMemory}
+use Rattle.vc4c_core.specs.declared.places.Trouble.TheVariants.{Missing as IsMissing, TooLong as IsTooLong, ReadFault as IsReadFault, WriteFault as IsWriteFault, Memory as IsMemory}
 
 told_at : (told : Option Tree) (tree : Tree) (P : Tree → Type 0) → told ≡ Some tree → IfSome told P → P tree
 told_at told tree P e h = subst (λ t. IfSome t P) e h
 
 -- a fault at a place counts from an earlier moment too
-earlier_fault : (place : Place) (first before now : FilesState) (trouble : Trouble) → FilesCountsStay first before → StoppedAt place before now trouble → StoppedAt place first now trouble
-earlier_fault (read name) first before now trouble counts stopped =
-    elim stopped [ inl h ↦ inl (h.0, omega (arith, h.1)) | inr h ↦ inr (h.0, omega (arith, h.1)) ]
-earlier_fault commit first before now trouble counts stopped = stopped
+earlier_fault : (place : Place) (tree : Tree) (first before now : FilesState) (trouble : Trouble) → FilesCountsStay first before → StoppedAt place tree before now trouble → StoppedAt place tree first now trouble
+earlier_fault (read name) tree first before now trouble counts stopped =
+    (stopped.0, elim stopped.1 [ inl h ↦ inl (h.0, omega (arith, h.1)) | inr h ↦ inr (h.0, omega (arith, h.1)) ])
+earlier_fault (write name bytes) tree first before now trouble counts stopped =
+    (stopped.0, elim stopped.1 [ inl h ↦ inl (h.0, omega (arith, h.1)) | inr h ↦ inr (h.0, omega (arith, h.1)) ])
+earlier_fault commit tree first before now trouble counts stopped = stopped
 
 passes_read : (asks : Bool) (name : List ℕ) (due : Due) (tree : Tree) (first before now : FilesState) (out_before out_now : SinkState) (result : Status)
     → FilesCountsStay first before
@@ -31,8 +33,7 @@ passes_read asks name due tree first before now out_before out_now result counts
       rest = h.rest;
       order = ap (λ ps. read name ∷ ps) h.order;
       trouble = h.trouble;
-      stopped = earlier_fault h.place first before now h.trouble counts h.stopped;
-      files = h.files;
+      stopped = earlier_fault h.place _ first before now h.trouble counts h.stopped;
       says = h.says;
     }))
 passes_read asks name due tree first before now out_before out_now result counts (inr (inr h)) =
@@ -42,6 +43,33 @@ passes_read asks name due tree first before now out_before out_now result counts
       passed = read name ∷ h.passed;
       rest = h.rest;
       order = ap (λ ps. read name ∷ ps) h.order;
+      no_step = h.no_step;
+      files = h.files;
+      out = h.out;
+    }))
+
+passes_write : (asks : Bool) (name bytes : List ℕ) (due : Due) (tree : Tree) (first before now : FilesState) (out_before out_now : SinkState) (result : Status)
+    → FilesCountsStay first before
+    → EndsAsDue asks due (with_file name (Some bytes) tree) before out_before now out_now result
+    → EndsAsDue asks (then_due (write name bytes) due) tree first out_before now out_now result
+passes_write asks name bytes due tree first before now out_before out_now result counts (inl h) = inl (record { files = h.files; says = h.says })
+passes_write asks name bytes due tree first before now out_before out_now result counts (inr (inl h)) =
+    inr (inl (record {
+      passed = write name bytes ∷ h.passed;
+      place = h.place;
+      rest = h.rest;
+      order = ap (λ ps. write name bytes ∷ ps) h.order;
+      trouble = h.trouble;
+      stopped = earlier_fault h.place _ first before now h.trouble counts h.stopped;
+      says = h.says;
+    }))
+passes_write asks name bytes due tree first before now out_before out_now result counts (inr (inr h)) =
+    inr (inr (record {
+      may = h.may;
+      is = h.is;
+      passed = write name bytes ∷ h.passed;
+      rest = h.rest;
+      order = ap (λ ps. write name bytes ∷ ps) h.order;
       no_step = h.no_step;
       files = h.files;
       out = h.out;
@@ -60,7 +88,6 @@ passes_commit asks due tree before now out_before out_now result (inr (inl h)) =
       order = ap (λ ps. commit ∷ ps) h.order;
       trouble = h.trouble;
       stopped = h.stopped;
-      files = h.files;
       says = h.says;
     }))
 passes_commit asks due tree before now out_before out_now result (inr (inr h)) = absurd (let no : false ≡ true = h.may in cc)
@@ -128,10 +155,10 @@ stops_at_read asks name limit next tree before now out_before out_now result tol
       rest = begins.0;
       order = begins.1;
       trouble = IsReadFault;
-      stopped = inl (refl, cause);
-      files = files ∙ told;
+      stopped = (files ∙ told, inl (refl, cause));
       says = says;
     }))
+stops_at_read asks name limit next tree before now out_before out_now result told files IsWriteFault cause says = absurd cause
 stops_at_read asks name limit next tree before now out_before out_now result told files IsMemory cause says =
     let begins = begins_with_read name limit (tree name) next in
     inr (inl (record {
@@ -140,9 +167,30 @@ stops_at_read asks name limit next tree before now out_before out_now result tol
       rest = begins.0;
       order = begins.1;
       trouble = IsMemory;
-      stopped = inr (refl, cause);
-      files = files ∙ told;
+      stopped = (files ∙ told, inr (refl, cause));
       says = says;
+    }))
+
+write_cause : (name bytes : List ℕ) (tree : Tree) (before now : FilesState) (trouble : Trouble) → ((left : Option (List ℕ)) × (now.told ≡ Some (with_file name left tree))) → WriteTrouble before now trouble → StoppedAt (write name bytes) tree before now trouble
+write_cause name bytes tree before now IsMissing left cause = absurd cause
+write_cause name bytes tree before now IsTooLong left cause = absurd cause
+write_cause name bytes tree before now IsReadFault left cause = absurd cause
+write_cause name bytes tree before now IsWriteFault left cause = (left, inl (refl, cause))
+write_cause name bytes tree before now IsMemory left cause = (left, inr (refl, cause))
+
+stops_at_write : (asks : Bool) (name bytes : List ℕ) (due : Due) (tree : Tree) (before now : FilesState) (out_before out_now : SinkState) (result : Status)
+    → before.told ≡ Some tree
+    → StopsAtWrite before now out_before out_now name result
+    → EndsAsDue asks (then_due (write name bytes) due) tree before out_before now out_now result
+stops_at_write asks name bytes due tree before now out_before out_now result told stop =
+    inr (inl (record {
+      passed = [];
+      place = write name bytes;
+      rest = due.places;
+      order = refl;
+      trouble = stop.trouble;
+      stopped = write_cause name bytes tree before now stop.trouble (stop.files.0, stop.files.1 ∙ ap (option_map (with_file name stop.files.0)) told) stop.cause;
+      says = stop.says;
     }))
 
 pub ends_as_due : (asks : Bool) (plan : Plan) (tree : Tree) (before : FilesState) (out_before : SinkState) (now : FilesState) (out_now : SinkState) (result : Status)
@@ -160,6 +208,13 @@ ends_as_due asks (reads name limit next) tree before out_before now out_now resu
     let rest = ends_as_due asks (next bytes) tree mid out_before now out_now result (has_read.files ∙ told) h.3 in
     let found = due_found name limit (tree name) bytes (λ b. due_of (next b) tree) is has_read.fits in
     subst (λ d. EndsAsDue asks d tree before out_before now out_now result) (sym found) (passes_read asks name _ tree before mid now out_before out_now result has_read.counts rest)
+ends_as_due asks (writes name bytes next) tree before out_before now out_now result told (inl h) = gives_up asks _ tree before now out_before out_now result told h
+ends_as_due asks (writes name bytes next) tree before out_before now out_now result told (inr (inl h)) = stops_at_write asks name bytes _ tree before now out_before out_now result told h
+ends_as_due asks (writes name bytes next) tree before out_before now out_now result told (inr (inr h)) =
+    let mid = h.0 in
+    let written = h.1 in
+    let rest = ends_as_due asks next (with_file name (Some bytes) tree) mid out_before now out_now result (written.files ∙ ap (option_map (with_file name (Some bytes))) told) h.2 in
+    passes_write asks name bytes _ tree before mid now out_before out_now result written.counts rest
 ends_as_due asks (commits next) tree before out_before now out_now result told (inl h) = gives_up asks _ tree before now out_before out_now result told h
 ends_as_due asks (commits next) tree before out_before now out_now result told (inr h) =
     passes_commit asks _ tree before now out_before out_now result (ends_as_due false next tree before out_before now out_now result told h)

@@ -1,28 +1,39 @@
 -- What `exec` has done where it ends with its answer.
-use Rattle.std.proofs.Common.{◌≡◌, ◌⊎◌, inl, inr, ℕ, Bool, true, false, cond, List, [], ◌∷◌, refl, sym, ap, ◌∙◌, subst}
-use Rattle.std.specs.Prelude.{Option, Some, None, bytes_eq, codes, ⊤}
+use Rattle.std.proofs.Common.{◌≡◌, ◌⊎◌, inl, inr, ℕ, ◌<◌, Bool, true, false, cond, List, [], ◌∷◌, ◌++◌, length, get_or, refl, sym, ap, ◌∙◌, subst, append_assoc, append-nil}
+use Rattle.std.specs.Prelude.{Option, Some, None, option_map, bytes_eq, codes, ⊤}
+use Rattle.std.specs.List.{All}
 use Rattle.std.proofs.lemmas.Slice.Eq.{bytes_eq-Decides}
-use Rattle.q_io.specs.FilesMeaning.{FilesState, Holds}
+use Rattle.q_io.specs.FilesMeaning.{Tree, with_file, FilesState, Holds}
 use Rattle.q_io.specs.SinkMeaning.{SinkState, Gains, PutsAll}
 use Rattle.q_io.specs.declared.Put.{Put}
 use Rattle.q_io.specs.declared.Put.TheVariants.{Done as WasPut, Failed as PutFailed, Memory as PutShort}
-use Rattle.qpu_machine.specs.MachineState.{stop_of}
+use Rattle.launch_file.specs.declared.launch.BufferLine.{BufferLine}
+use Rattle.launch_file.specs.declared.launch.Schedule.{Schedule}
+use Rattle.launch_file.specs.declared.launch.Schedule.TheVariants.{Rounds, Seed, File}
+use Rattle.launch_file.specs.Launches.{LaunchOf}
+use Rattle.launch_file.specs.LaunchIn.{launch_in}
+use Rattle.launch_file.specs.Rules.{first_fault as launch_fault}
+use Rattle.launch_file.specs.Fit.{FaultAt, fit_fault}
+use Rattle.vc4q_module.specs.ModuleBytes.{ModuleOf, IsModule, module_bytes, module_in, first_fault as module_fault}
+use Rattle.vc4q_module.proofs.ModuleLaws.{module_in-bytes}
+use Rattle.vc4q_module.proofs.Faults.{passing_spells, spellings_pass}
+use Rattle.std.proofs.lemmas.List.{get_or_default}
+use Rattle.qpu_machine.specs.MachineState.{MachineState, stop_of}
 use Rattle.qpu_machine.specs.declared.state.Stop.{Stop}
 use Rattle.qpu_machine.specs.declared.state.Stop.TheVariants as stop
 use Rattle.vc4c_core.specs.Lines.{Says, SaysTrouble, status_after}
-use Rattle.vc4c_core.specs.Plan.{Ends, HasRead, status_of}
-use Rattle.vc4c_core.specs.ModuleBytes.{module_of}
-use Rattle.vc4c_core.specs.LaunchText.{launch_of}
+use Rattle.vc4c_core.specs.Plan.{Plan, Ends, HasRead, status_of}
 use Rattle.vc4c_core.specs.Report.{report}
-use Rattle.vc4c_core.specs.Small.{machine_after}
-use Rattle.vc4c_core.specs.Exec.{exec_plan, launch_plan, report_plan, after_module, after_launch, module_limit, launch_limit, module_line, launch_line, answer_of, IsRunStatus, Executed, RefusedModule, RefusedLaunch, ExecAnswers}
+use Rattle.vc4c_core.specs.Buffers.{filled, read_buffer, read_buffers, write_buffer, write_buffers, buffers_of}
+use Rattle.vc4c_core.specs.Openings.{opening_for}
+use Rattle.vc4c_core.specs.Play.{answer_of, ran, report_plan, play_plan}
+use Rattle.vc4c_core.specs.Exec.{exec_plan, module_plan, after_module, launch_plan, after_launch, fit_plan, after_fit, schedule_plan, buffers_plan, ready_plan, read_schedule, module_limit, launch_limit, module_line, launch_line}
+use Rattle.vc4c_core.specs.ExecClauses.{IsRunStatus, IsRead, AreRead, IsScheduleFile, stored_one, stored, run_of, IsFaultOf, Executed, RefusedModule, RefusedLaunch, ExecAnswers}
 use Rattle.vc4c_core.specs.Commands.{plan_of, Runs, IfExec}
-use Rattle.vc4c_core.proofs.ModuleLaws.{module_of-some, module_of-IsCode, module_of-bytes}
-use Rattle.vc4c_core.proofs.LaunchLaws.{launch_of-some, launch_of-below, launch_of-text}
 use Rattle.vc4c_core.specs.declared.status.Status.{Status}
 use Rattle.vc4c_core.specs.declared.status.Status.TheVariants.{Done, Memory, Usage, ReadFault, WriteFault, Missing, TooLong, Refused, BadModule, BadLaunch, Broken, Unfinished, NotSafe}
 use Rattle.vc4c_core.specs.declared.places.Trouble.{Trouble}
-use Rattle.vc4c_core.specs.declared.places.Trouble.TheVariants.{Missing as IsMissing, TooLong as IsTooLong, ReadFault as IsReadFault, Memory as IsMemory}
+use Rattle.vc4c_core.specs.declared.places.Trouble.TheVariants.{Missing as IsMissing, TooLong as IsTooLong, ReadFault as IsReadFault, WriteFault as IsWriteFault, Memory as IsMemory}
 
 -- the answers of the outside
 IsOutside : Status → Type 0
@@ -69,95 +80,248 @@ unfolding IsOutside
 says_outside before now name IsMissing result says = line_outside before now _ Missing result says tt
 says_outside before now name IsTooLong result says = line_outside before now _ TooLong result says tt
 says_outside before now name IsReadFault result says = line_outside before now _ ReadFault result says tt
+says_outside before now name IsWriteFault result says = line_outside before now _ WriteFault result says tt
 says_outside before now name IsMemory result says = short_outside result says.1
 
 holds_earlier : (before mid : FilesState) (name bytes : List ℕ) → mid.told ≡ before.told → Holds mid name bytes → Holds before name bytes
 holds_earlier before mid name bytes e h = subst (λ told. Holds (record before { told = told }) name bytes) e h
 
-report_end : (module_name launch_name words bytes launch : List ℕ) (rounds : ℕ) (before mid last now : FilesState) (out_before out_now : SinkState) (result : Status)
-    → HasRead before mid module_name module_limit bytes → module_of bytes ≡ Some words
-    → HasRead mid last launch_name launch_limit launch → launch_of launch ≡ Some rounds
-    → Ends false (report_plan (machine_after words rounds)) last out_before now out_now result
+-- ---- what was read before the run
+
+-- a buffer was read, and the run goes on with its bytes
+abbrev BufferEnd : FilesState → BufferLine → (List ℕ → Plan) → SinkState → FilesState → SinkState → Status → Type 0
+BufferEnd before line next out_before now out_now result =
+    IsOutside result ⊎ ((bytes : List ℕ) × (last : FilesState) × (last.told ≡ before.told) × IsRead before line bytes × Ends true (next bytes) last out_before now out_now result)
+
+buffer_end : (size : ℕ) (from to : Option (List ℕ)) (next : List ℕ → Plan) (before mid now : FilesState) (out_before out_now : SinkState) (result : Status)
+    → mid.told ≡ before.told → Ends true (read_buffer (record { size = size; from = from; to = to }) next) mid out_before now out_now result
+    → BufferEnd before (record { size = size; from = from; to = to }) next out_before now out_now result
+buffer_end size None to next before mid now out_before out_now result same h = inr (filled size [], mid, same, refl, h)
+buffer_end size (Some name) to next before mid now out_before out_now result same (inl h) = inl (short_outside result h.is)
+buffer_end size (Some name) to next before mid now out_before out_now result same (inr (inl h)) = inl (says_outside out_before out_now _ h.trouble result h.says)
+buffer_end size (Some name) to next before mid now out_before out_now result same (inr (inr (bytes, last, read, ends))) =
+    inr (filled size bytes, last, read.files ∙ same, (bytes, holds_earlier before mid name bytes same read.holds, read.fits, refl), ends)
+
+abbrev BuffersEnd : FilesState → List BufferLine → List (List ℕ) → (List (List ℕ) → Plan) → SinkState → FilesState → SinkState → Status → Type 0
+BuffersEnd before lines got next out_before now out_now result =
+    IsOutside result ⊎ ((buffers : List (List ℕ)) × (last : FilesState) × (last.told ≡ before.told) × AreRead before lines buffers × Ends true (next (got ++ buffers)) last out_before now out_now result)
+
+buffers_end : (lines : List BufferLine) (got : List (List ℕ)) (next : List (List ℕ) → Plan) (before mid now : FilesState) (out_before out_now : SinkState) (result : Status)
+    → mid.told ≡ before.told → Ends true (read_buffers lines got next) mid out_before now out_now result
+    → BuffersEnd before lines got next out_before now out_now result
+buffers_end [] got next before mid now out_before out_now result same h =
+    inr ([], mid, same, tt, subst (λ bs. Ends true (next bs) mid out_before now out_now result) (sym (append-nil got)) h)
+buffers_end (line ∷ lines) got next before mid now out_before out_now result same h =
+    elim (buffer_end line.size line.from line.to (λ bytes. read_buffers lines (got ++ bytes ∷ []) next) before mid now out_before out_now result same h) [
+      | inl out ↦ inl out
+      | inr (bytes, last, told, read, ends) ↦ elim (buffers_end lines (got ++ bytes ∷ []) next before last now out_before out_now result told ends) [
+        | inl out ↦ inl out
+        | inr (buffers, end, told_end, are, rest) ↦
+            inr (bytes ∷ buffers, end, told_end, (read, are), subst (λ bs. Ends true (next bs) end out_before now out_now result) (append_assoc got (bytes ∷ []) buffers) rest)
+      ]
+    ]
+
+schedule_end : (schedule : Schedule) (next : List ℕ → Plan) (before mid now : FilesState) (out_before out_now : SinkState) (result : Status)
+    → mid.told ≡ before.told → Ends true (read_schedule schedule next) mid out_before now out_now result
+    → IsOutside result ⊎ ((file : List ℕ) × (last : FilesState) × (last.told ≡ before.told) × IsScheduleFile before schedule file × Ends true (next file) last out_before now out_now result)
+schedule_end (Rounds rounds) next before mid now out_before out_now result same h = inr ([], mid, same, refl, h)
+schedule_end (Seed seed steps) next before mid now out_before out_now result same h = inr ([], mid, same, refl, h)
+schedule_end (File name times) next before mid now out_before out_now result same (inl h) = inl (short_outside result h.is)
+schedule_end (File name times) next before mid now out_before out_now result same (inr (inl h)) = inl (says_outside out_before out_now _ h.trouble result h.says)
+schedule_end (File name times) next before mid now out_before out_now result same (inr (inr (file, last, read, ends))) =
+    inr (file, last, read.files ∙ same, (holds_earlier before mid name file same read.holds, read.fits), ends)
+
+-- ---- what was written after it
+
+mapped_same : (told : Option Tree) → told ≡ option_map (λ tree. tree) told
+mapped_same None = refl
+mapped_same (Some tree) = refl
+
+mapped_twice : (f g : Tree → Tree) (told : Option Tree) → option_map f (option_map g told) ≡ option_map (λ tree. f (g tree)) told
+mapped_twice f g None = refl
+mapped_twice f g (Some tree) = refl
+
+abbrev StoresEnd : FilesState → (Tree → Tree) → Plan → SinkState → FilesState → SinkState → Status → Type 0
+StoresEnd before change next out_before now out_now result =
+    IsOutside result ⊎ ((last : FilesState) × (last.told ≡ option_map change before.told) × Ends false next last out_before now out_now result)
+
+store_end : (size : ℕ) (from to : Option (List ℕ)) (bytes : List ℕ) (next : Plan) (before now : FilesState) (out_before out_now : SinkState) (result : Status)
+    → Ends false (write_buffer (record { size = size; from = from; to = to }) bytes next) before out_before now out_now result
+    → StoresEnd before (stored_one to bytes) next out_before now out_now result
+store_end size from None bytes next before now out_before out_now result h = inr (before, mapped_same before.told, h)
+store_end size from (Some name) bytes next before now out_before out_now result (inl h) = inl (short_outside result h.is)
+store_end size from (Some name) bytes next before now out_before out_now result (inr (inl h)) = inl (says_outside out_before out_now _ h.trouble result h.says)
+store_end size from (Some name) bytes next before now out_before out_now result (inr (inr (last, wrote, ends))) = inr (last, wrote.files, ends)
+
+stores_end : (lines : List BufferLine) (buffers : List (List ℕ)) (next : Plan) (before now : FilesState) (out_before out_now : SinkState) (result : Status)
+    → Ends false (write_buffers lines buffers next) before out_before now out_now result
+    → StoresEnd before (stored lines buffers) next out_before now out_now result
+stores_end [] buffers next before now out_before out_now result h = inr (before, mapped_same before.told, h)
+stores_end (line ∷ lines) [] next before now out_before out_now result h = inr (before, mapped_same before.told, h)
+stores_end (line ∷ lines) (bytes ∷ buffers) next before now out_before out_now result h =
+    elim (store_end line.size line.from line.to bytes (write_buffers lines buffers next) before now out_before out_now result h) [
+      | inl out ↦ inl out
+      | inr (mid, told, ends) ↦ elim (stores_end lines buffers next mid now out_before out_now result ends) [
+        | inl out ↦ inl out
+        | inr (last, told_last, rest) ↦ inr (last, told_last ∙ ap (option_map (stored lines buffers)) told ∙ mapped_twice (stored lines buffers) (stored_one line.to bytes) before.told, rest)
+      ]
+    ]
+
+-- ---- the ends of `exec`
+
+-- a launch that fits, and all that was read for it
+record Given (module_name launch_name : List ℕ) (before : FilesState) (code : ModuleOf) (text : List ℕ) : Type 0 where
+  module_is : IsModule code
+  module_file : Holds before module_name (module_bytes code)
+  launch_file : Holds before launch_name text
+
+report_end : (module_name launch_name : List ℕ) (code : ModuleOf) (text file : List ℕ) (buffers : List (List ℕ)) (before mid last now : FilesState) (out_before out_now : SinkState) (result : Status)
+    → Given module_name launch_name before code text → launch_fault text ≡ None → fit_fault (launch_in text) code.kinds (module_name ∷ launch_name ∷ []) ≡ None
+    → IsScheduleFile before (launch_in text).schedule file → AreRead before (launch_in text).buffers buffers
+    → mid.told ≡ before.told → last.told ≡ option_map (stored (launch_in text).buffers (buffers_of (run_of code (launch_in text) buffers file))) mid.told
+    → Ends false (report_plan (run_of code (launch_in text) buffers file)) last out_before now out_now result
     → ExecEnd module_name launch_name before out_before now out_now result
 unfolding report_plan
-report_end module_name launch_name words bytes launch rounds before mid last now out_before out_now result read is read_launch launch_is (inl h) = outside (short_outside result h.is)
-report_end module_name launch_name words bytes launch rounds before mid last now out_before out_now result read is read_launch launch_is (inr (same, says)) =
-    elim (says_cases out_before out_now (report (machine_after words rounds)) (status_of (answer_of (stop_of (machine_after words rounds)))) result says) [
+report_end module_name launch_name code text file buffers before mid last now out_before out_now result given none fits schedule contents same told (inl h) = outside (short_outside result h.is)
+report_end module_name launch_name code text file buffers before mid last now out_before out_now result given none fits schedule contents same told (inr (kept, says)) =
+    let r : MachineState = run_of code (launch_in text) buffers file in
+    elim (says_cases out_before out_now (report r) (status_of (answer_of (stop_of r))) result says) [
       | inl h ↦ outside h
       | inr h ↦ executed (record {
-        words = words;
-        rounds = rounds;
-        code = module_of-IsCode bytes words is;
-        module_file = subst (Holds before module_name) (module_of-some bytes words is) read.holds;
-        few = launch_of-below launch rounds launch_is;
-        launch_file = subst (Holds before launch_name) (launch_of-some launch rounds launch_is) (holds_earlier before mid launch_name launch read.files read_launch.holds);
+        code = code;
+        text = text;
+        file = file;
+        buffers = buffers;
+        module_is = given.module_is;
+        module_file = given.module_file;
+        launch_file = given.launch_file;
+        no_fault = none;
+        fits = fits;
+        schedule_file = schedule;
+        contents = contents;
         status = h.0;
-        files = ap (λ f. f.told) same ∙ read_launch.files ∙ read.files;
+        files = ap (λ f. f.told) kept ∙ told ∙ ap (option_map (stored (launch_in text).buffers (buffers_of r))) same;
         line = h.1;
       })
     ]
 
-launch_end : (module_name launch_name words bytes launch : List ℕ) (rounds : Option ℕ) (before mid last now : FilesState) (out_before out_now : SinkState) (result : Status)
-    → HasRead before mid module_name module_limit bytes → module_of bytes ≡ Some words
-    → HasRead mid last launch_name launch_limit launch → launch_of launch ≡ rounds
-    → Ends true (after_launch words rounds) last out_before now out_now result
+ready_end : (module_name launch_name : List ℕ) (code : ModuleOf) (text file : List ℕ) (buffers : List (List ℕ)) (before mid now : FilesState) (out_before out_now : SinkState) (result : Status)
+    → Given module_name launch_name before code text → launch_fault text ≡ None → fit_fault (launch_in text) code.kinds (module_name ∷ launch_name ∷ []) ≡ None
+    → IsScheduleFile before (launch_in text).schedule file → AreRead before (launch_in text).buffers buffers → mid.told ≡ before.told
+    → Ends true (ready_plan code (launch_in text) file buffers) mid out_before now out_now result
     → ExecEnd module_name launch_name before out_before now out_now result
-launch_end module_name launch_name words bytes launch (Some rounds) before mid last now out_before out_now result read is read_launch launch_is (inl h) = outside (short_outside result h.is)
-launch_end module_name launch_name words bytes launch (Some rounds) before mid last now out_before out_now result read is read_launch launch_is (inr ends) =
-    report_end module_name launch_name words bytes launch rounds before mid last now out_before out_now result read is read_launch launch_is ends
-launch_end module_name launch_name words bytes launch None before mid last now out_before out_now result read is read_launch launch_is (inl h) = outside (short_outside result h.is)
-launch_end module_name launch_name words bytes launch None before mid last now out_before out_now result read is read_launch launch_is (inr (same, says)) =
-    elim (says_cases out_before out_now launch_line BadLaunch result says) [
+unfolding play_plan
+ready_end module_name launch_name code text file buffers before mid now out_before out_now result given none fits schedule contents same (inl h) = outside (short_outside result h.is)
+ready_end module_name launch_name code text file buffers before mid now out_before out_now result given none fits schedule contents same (inr h) =
+    let r : MachineState = run_of code (launch_in text) buffers file in
+    elim (stores_end (launch_in text).buffers (buffers_of r) (report_plan r) mid now out_before out_now result h) [
+      | inl out ↦ outside out
+      | inr (last, told, ends) ↦ report_end module_name launch_name code text file buffers before mid last now out_before out_now result given none fits schedule contents same told ends
+    ]
+
+fitting_end : (module_name launch_name : List ℕ) (code : ModuleOf) (text : List ℕ) (before mid now : FilesState) (out_before out_now : SinkState) (result : Status)
+    → Given module_name launch_name before code text → launch_fault text ≡ None → fit_fault (launch_in text) code.kinds (module_name ∷ launch_name ∷ []) ≡ None → mid.told ≡ before.told
+    → Ends true (schedule_plan code (launch_in text)) mid out_before now out_now result
+    → ExecEnd module_name launch_name before out_before now out_now result
+unfolding schedule_plan buffers_plan
+fitting_end module_name launch_name code text before mid now out_before out_now result given none fits same h =
+    elim (schedule_end (launch_in text).schedule (buffers_plan code (launch_in text)) before mid now out_before out_now result same h) [
+      | inl out ↦ outside out
+      | inr (file, later, told, schedule, ends) ↦ elim (buffers_end (launch_in text).buffers [] (ready_plan code (launch_in text) file) before later now out_before out_now result told ends) [
+        | inl out ↦ outside out
+        | inr (buffers, last, told_last, contents, rest) ↦ ready_end module_name launch_name code text file buffers before last now out_before out_now result given none fits schedule contents told_last rest
+      ]
+    ]
+
+-- a launch that violates a rule
+refused_end : (module_name launch_name : List ℕ) (code : ModuleOf) (text : List ℕ) (rule at : ℕ) (before mid now : FilesState) (out_before out_now : SinkState) (result : Status)
+    → Given module_name launch_name before code text → IsFaultOf text code.kinds (module_name ∷ launch_name ∷ []) rule at → mid.told ≡ before.told
+    → now ≡ mid → Says out_before out_now (launch_line rule at) BadLaunch result
+    → ExecEnd module_name launch_name before out_before now out_now result
+refused_end module_name launch_name code text rule at before mid now out_before out_now result given fault same kept says =
+    elim (says_cases out_before out_now (launch_line rule at) BadLaunch result says) [
       | inl h ↦ outside h
       | inr h ↦ no_launch h.0 (record {
-        words = words;
-        code = module_of-IsCode bytes words is;
-        module_file = subst (Holds before module_name) (module_of-some bytes words is) read.holds;
-        bytes = launch;
-        read = holds_earlier before mid launch_name launch read.files read_launch.holds;
-        no_launch = λ rounds few e. let known : launch_of launch ≡ Some rounds = ap launch_of e ∙ launch_of-text rounds few in let none : launch_of launch ≡ None = launch_is in cc;
-        files = ap (λ f. f.told) same ∙ read_launch.files ∙ read.files;
+        code = code;
+        text = text;
+        rule = rule;
+        at = at;
+        module_is = given.module_is;
+        module_file = given.module_file;
+        read = given.launch_file;
+        fault = fault;
+        files = ap (λ f. f.told) kept ∙ same;
         line = h.1;
       })
     ]
 
-launch_plan_end : (module_name launch_name words bytes : List ℕ) (before mid now : FilesState) (out_before out_now : SinkState) (result : Status)
-    → HasRead before mid module_name module_limit bytes → module_of bytes ≡ Some words
-    → Ends true (launch_plan words launch_name) mid out_before now out_now result
+fit_end : (module_name launch_name : List ℕ) (code : ModuleOf) (text : List ℕ) (fault : Option FaultAt) (before mid now : FilesState) (out_before out_now : SinkState) (result : Status)
+    → Given module_name launch_name before code text → launch_fault text ≡ None → fit_fault (launch_in text) code.kinds (module_name ∷ launch_name ∷ []) ≡ fault → mid.told ≡ before.told
+    → Ends true (after_fit fault code (launch_in text)) mid out_before now out_now result
+    → ExecEnd module_name launch_name before out_before now out_now result
+fit_end module_name launch_name code text None before mid now out_before out_now result given none is same h = fitting_end module_name launch_name code text before mid now out_before out_now result given none is same h
+fit_end module_name launch_name code text (Some fault) before mid now out_before out_now result given none is same (inl h) = outside (short_outside result h.is)
+fit_end module_name launch_name code text (Some fault) before mid now out_before out_now result given none is same (inr h) =
+    refused_end module_name launch_name code text fault.rule fault.line before mid now out_before out_now result given (inr (none, is)) same h.0 h.1
+
+text_end : (module_name launch_name : List ℕ) (code : ModuleOf) (text : List ℕ) (fault : Option (ℕ × ℕ)) (before mid now : FilesState) (out_before out_now : SinkState) (result : Status)
+    → Given module_name launch_name before code text → launch_fault text ≡ fault → mid.told ≡ before.told
+    → Ends true (after_launch fault (module_name ∷ launch_name ∷ []) code (launch_in text)) mid out_before now out_now result
+    → ExecEnd module_name launch_name before out_before now out_now result
+unfolding fit_plan
+text_end module_name launch_name code text None before mid now out_before out_now result given is same h =
+    fit_end module_name launch_name code text (fit_fault (launch_in text) code.kinds (module_name ∷ launch_name ∷ [])) before mid now out_before out_now result given is refl same h
+text_end module_name launch_name code text (Some fault) before mid now out_before out_now result given is same (inl h) = outside (short_outside result h.is)
+text_end module_name launch_name code text (Some fault) before mid now out_before out_now result given is same (inr h) =
+    refused_end module_name launch_name code text fault.0 fault.1 before mid now out_before out_now result given (inl is) same h.0 h.1
+
+launch_end : (module_name launch_name : List ℕ) (code : ModuleOf) (before mid now : FilesState) (out_before out_now : SinkState) (result : Status)
+    → IsModule code → Holds before module_name (module_bytes code) → mid.told ≡ before.told
+    → Ends true (launch_plan (module_name ∷ launch_name ∷ []) code launch_name) mid out_before now out_now result
     → ExecEnd module_name launch_name before out_before now out_now result
 unfolding launch_plan
-launch_plan_end module_name launch_name words bytes before mid now out_before out_now result read is (inl h) = outside (short_outside result h.is)
-launch_plan_end module_name launch_name words bytes before mid now out_before out_now result read is (inr (inl h)) = outside (says_outside out_before out_now _ h.trouble result h.says)
-launch_plan_end module_name launch_name words bytes before mid now out_before out_now result read is (inr (inr (launch, last, read_launch, ends))) =
-    launch_end module_name launch_name words bytes launch (launch_of launch) before mid last now out_before out_now result read is read_launch refl ends
+launch_end module_name launch_name code before mid now out_before out_now result valid holds same (inl h) = outside (short_outside result h.is)
+launch_end module_name launch_name code before mid now out_before out_now result valid holds same (inr (inl h)) = outside (says_outside out_before out_now _ h.trouble result h.says)
+launch_end module_name launch_name code before mid now out_before out_now result valid holds same (inr (inr (text, last, read, ends))) =
+    let given : Given module_name launch_name before code text = record { module_is = valid; module_file = holds; launch_file = holds_earlier before mid launch_name text same read.holds } in
+    text_end module_name launch_name code text (launch_fault text) before last now out_before out_now result given refl (read.files ∙ same) ends
 
-module_end : (module_name launch_name bytes : List ℕ) (words : Option (List ℕ)) (before mid now : FilesState) (out_before out_now : SinkState) (result : Status)
-    → HasRead before mid module_name module_limit bytes → module_of bytes ≡ words
-    → Ends true (after_module launch_name words) mid out_before now out_now result
+all_bytes : (bytes : List ℕ) → ((i : ℕ) → get_or bytes i 0 < 256) → All (λ b. b < 256) bytes
+all_bytes bytes h = λ k d within. subst (λ (b : ℕ). b < 256) (get_or_default bytes k 0 d within) (h k)
+
+module_end : (module_name launch_name bytes : List ℕ) (fault : Option ℕ) (before mid now : FilesState) (out_before out_now : SinkState) (result : Status)
+    → HasRead before mid module_name module_limit bytes → module_fault bytes ≡ fault
+    → Ends true (after_module fault (module_name ∷ launch_name ∷ []) (module_in bytes) launch_name) mid out_before now out_now result
     → ExecEnd module_name launch_name before out_before now out_now result
-module_end module_name launch_name bytes (Some words) before mid now out_before out_now result read is ends =
-    launch_plan_end module_name launch_name words bytes before mid now out_before out_now result read is ends
-module_end module_name launch_name bytes None before mid now out_before out_now result read is (inl h) = outside (short_outside result h.is)
-module_end module_name launch_name bytes None before mid now out_before out_now result read is (inr (same, says)) =
-    elim (says_cases out_before out_now module_line BadModule result says) [
+module_end module_name launch_name bytes (Some place) before mid now out_before out_now result read is (inl h) = outside (short_outside result h.is)
+module_end module_name launch_name bytes (Some place) before mid now out_before out_now result read is (inr (same, says)) =
+    elim (says_cases out_before out_now (module_line place) BadModule result says) [
       | inl h ↦ outside h
       | inr h ↦ no_module h.0 (record {
         bytes = bytes;
+        place = place;
         read = read.holds;
-        no_module = λ words code e. let known : module_of bytes ≡ Some words = ap module_of e ∙ module_of-bytes words code in let none : module_of bytes ≡ None = is in cc;
+        fault = is;
+        no_module = λ code valid e. let none : module_fault bytes ≡ None = ap module_fault e ∙ spellings_pass code valid in let some : module_fault bytes ≡ Some place = is in cc;
         files = ap (λ f. f.told) same ∙ read.files;
         line = h.1;
       })
     ]
+module_end module_name launch_name bytes None before mid now out_before out_now result read is h =
+    let spelled = passing_spells bytes (all_bytes bytes read.are_bytes) is in
+    let code : ModuleOf = spelled.0 in
+    let known : module_in bytes ≡ code = ap module_in spelled.1.1 ∙ module_in-bytes code spelled.1.0 in
+    let ends : Ends true (launch_plan (module_name ∷ launch_name ∷ []) code launch_name) mid out_before now out_now result =
+    subst (λ m. Ends true (launch_plan (module_name ∷ launch_name ∷ []) m launch_name) mid out_before now out_now result) known h in
+    launch_end module_name launch_name code before mid now out_before out_now result spelled.1.0 (subst (Holds before module_name) spelled.1.1 read.holds) read.files ends
 
 exec_end : (module_name launch_name : List ℕ) (before now : FilesState) (out_before out_now : SinkState) (result : Status)
-    → Ends true (exec_plan module_name launch_name) before out_before now out_now result
-    → ExecEnd module_name launch_name before out_before now out_now result
-unfolding exec_plan
+    → Ends true (exec_plan module_name launch_name) before out_before now out_now result → ExecEnd module_name launch_name before out_before now out_now result
+unfolding exec_plan module_plan
 exec_end module_name launch_name before now out_before out_now result (inl h) = outside (short_outside result h.is)
 exec_end module_name launch_name before now out_before out_now result (inr (inl h)) = outside (says_outside out_before out_now _ h.trouble result h.says)
 exec_end module_name launch_name before now out_before out_now result (inr (inr (bytes, mid, read, ends))) =
-    module_end module_name launch_name bytes (module_of bytes) before mid now out_before out_now result read refl ends
+    module_end module_name launch_name bytes (module_fault bytes) before mid now out_before out_now result read refl ends
 
 outside_no_run : (result : Status) → IsOutside result → IsRunStatus result → ⊥
 unfolding IsOutside

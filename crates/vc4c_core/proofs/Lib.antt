@@ -1,11 +1,13 @@
 pub mod Causes
 pub mod ReportLaws
-pub mod SmallLaws
-pub mod ModuleLaws
-pub mod LaunchLaws
-mod Numbers
 pub mod Steps
+pub mod NameLaws
+pub mod BufferSteps
+pub mod OpeningSteps
+pub mod OpeningLaws
+pub mod ExecSteps
 pub mod EndsAsDue
 pub mod Caused
 pub mod Clauses
+pub mod Shortage
 pub mod ExecDone

@@ -1,18 +1,19 @@
 -- What is due of a command where the files are told, and how it may end.
-use Rattle.std.specs.Prelude.{◌≡◌, ◌⊎◌, ℕ, Bool, true, false, List, [], ◌∷◌, ◌++◌, length, Option, Some, None, nat_le, if◌then◌else◌}
+use Rattle.std.specs.Prelude.{◌≡◌, ◌⊎◌, ℕ, Bool, true, false, List, [], ◌∷◌, ◌++◌, length, Option, Some, None, bytes_eq, nat_le, if◌then◌else◌}
 use Rattle.q_io.specs.Rose.{Rose}
-use Rattle.q_io.specs.FilesMeaning.{Tree, FilesState}
+use Rattle.q_io.specs.FilesMeaning.{Tree, with_file, FilesState}
 use Rattle.q_io.specs.SinkMeaning.{SinkState}
-use Rattle.vc4c_core.specs.Plan.{Plan, reads, commits, answers, status_of}
+use Rattle.vc4c_core.specs.Plan.{Plan, reads, writes, commits, answers, status_of}
 use Rattle.vc4c_core.specs.Lines.{Says, SaysTrouble, trouble_line, trouble_status}
 use Rattle.vc4c_core.specs.declared.status.Status.{Status}
 use Rattle.vc4c_core.specs.declared.status.Status.TheVariants.{Memory}
 use Rattle.vc4c_core.specs.declared.places.Trouble.{Trouble}
-use Rattle.vc4c_core.specs.declared.places.Trouble.TheVariants.{Missing as IsMissing, TooLong as IsTooLong, ReadFault as IsReadFault, Memory as IsMemory}
+use Rattle.vc4c_core.specs.declared.places.Trouble.TheVariants.{Missing as IsMissing, TooLong as IsTooLong, ReadFault as IsReadFault, WriteFault as IsWriteFault, Memory as IsMemory}
 
 -- a place that the command comes to
 pub data Place : Type 0 where
   read : (name : List ℕ) → Place
+  write : (name bytes : List ℕ) → Place
   -- from here on no memory is asked for
   commit : Place
 
@@ -36,38 +37,66 @@ due_read name limit (Some bytes) next = if nat_le (length bytes) limit then then
 -- what is due of a plan with these files: the first place where a name isn't there, its file passes the limit or a rule is violated, else the answer of the run
 abbrev pub due_of : Plan → Tree → Due
 due_of (reads name limit next) tree = due_read name limit (tree name) (λ bytes. due_of (next bytes) tree)
+due_of (writes name bytes next) tree = then_due (write name bytes) (due_of next (with_file name (Some bytes) tree))
 due_of (commits next) tree = then_due commit (due_of next tree)
 due_of (answers answer line) tree = record { places = []; status = status_of answer; line = line }
+
+-- the files after these places
+abbrev pub after : List Place → Tree → Tree
+after [] tree = tree
+after (read name ∷ places) tree = after places tree
+after (write name bytes ∷ places) tree = after places (with_file name (Some bytes) tree)
+after (commit ∷ places) tree = after places tree
+
+-- none of these places writes this file
+abbrev pub spares : List ℕ → List Place → Bool
+spares name [] = true
+spares name (read other ∷ places) = spares name places
+spares name (write other bytes ∷ places) = if bytes_eq other name then false else spares name places
+spares name (commit ∷ places) = spares name places
+
+-- a file that none of these places writes is as it was
+pub record OnlyWrites (places : List Place) (tree : Tree) (now : FilesState) : Type 0 where
+  pub left : Tree
+  pub told : now.told ≡ Some left
+  pub others : (name : List ℕ) → spares name places ≡ true → left name ≡ tree name
 
 abbrev pub has_committed : List Place → Bool
 has_committed [] = false
 has_committed (read name ∷ places) = has_committed places
+has_committed (write name bytes ∷ places) = has_committed places
 has_committed (commit ∷ places) = true
 
--- a place where a fault stopped the command, and its cause
-abbrev pub StoppedAt : Place → FilesState → FilesState → Trouble → Type 0
-StoppedAt (read name) before now trouble =
-    ((trouble ≡ IsReadFault) × Rose before.read_faults now.read_faults) ⊎ ((trouble ≡ IsMemory) × Rose before.shortages now.shortages)
-StoppedAt commit before now trouble = ⊥
+-- a place where a fault stopped the command, its cause and what it left of the files: a file whose write failed may hold anything
+abbrev pub StoppedAt : Place → Tree → FilesState → FilesState → Trouble → Type 0
+StoppedAt (read name) tree before now trouble =
+    (now.told ≡ Some tree)
+    × (((trouble ≡ IsReadFault) × Rose before.read_faults now.read_faults)
+    ⊎ ((trouble ≡ IsMemory) × Rose before.shortages now.shortages))
+StoppedAt (write name bytes) tree before now trouble =
+    ((left : Option (List ℕ)) × (now.told ≡ Some (with_file name left tree)))
+    × (((trouble ≡ IsWriteFault) × Rose before.write_faults now.write_faults)
+    ⊎ ((trouble ≡ IsMemory) × Rose before.shortages now.shortages))
+StoppedAt commit tree before now trouble = ⊥
 
 abbrev pub name_of : Place → List ℕ
 name_of (read name) = name
+name_of (write name bytes) = name
 name_of commit = []
 
 -- all places were passed, and the answer is the one that is due
 pub record AsDue (due : Due) (tree : Tree) (now : FilesState) (out_before out_now : SinkState) (result : Status) : Type 0 where
-  pub files : now.told ≡ Some tree
+  pub files : now.told ≡ Some (after due.places tree)
   pub says : Says out_before out_now due.line due.status result
 
--- a fault of the files came at a place: the ones before it were passed and the later ones weren't begun
+-- a fault of the files came at a place: the places before it were passed and the later ones weren't begun
 pub record AtFault (due : Due) (tree : Tree) (before : FilesState) (now : FilesState) (out_before out_now : SinkState) (result : Status) : Type 0 where
   pub passed : List Place
   pub place : Place
   pub rest : List Place
   pub order : due.places ≡ passed ++ place ∷ rest
   pub trouble : Trouble
-  pub stopped : StoppedAt place before now trouble
-  pub files : now.told ≡ Some tree
+  pub stopped : StoppedAt place (after passed tree) before now trouble
   pub says : SaysTrouble out_before out_now trouble (name_of place) result
 
 -- want of memory before the machine's first step: the places before it were passed and nothing was written to the sink
@@ -78,7 +107,7 @@ pub record ShortOfMemory (asks : Bool) (due : Due) (tree : Tree) (now : FilesSta
   pub rest : List Place
   pub order : due.places ≡ passed ++ rest
   pub no_step : has_committed passed ≡ false
-  pub files : now.told ≡ Some tree
+  pub files : now.told ≡ Some (after passed tree)
   pub out : out_now ≡ out_before
 
 -- how a command ends of which this is due
@@ -93,3 +122,10 @@ pub record IsQuiet (before : FilesState) (out_before : SinkState) (now : FilesSt
   pub reads : ¬ (Rose before.read_faults now.read_faults)
   pub writes : ¬ (Rose before.write_faults now.write_faults)
   pub sink : ¬ (Rose out_before.faults out_now.faults)
+
+-- where memory was wanting: a shortage was counted, or no file has changed and nothing was written
+abbrev pub ShortOrKept : FilesState → SinkState → FilesState → SinkState → Type 0
+ShortOrKept before out_before now out_now =
+    Rose before.shortages now.shortages
+    ⊎ (Rose out_before.shortages out_now.shortages
+    ⊎ ((now.told ≡ before.told) × (out_now ≡ out_before)))

@@ -1,20 +1,25 @@
--- The command `exec`: its places, and what it has done at the machine's stop.
-use Rattle.std.specs.Prelude.{◌≡◌, ◌≢◌, ◌<◌, ◌^◌, ℕ, List, Option, Some, None, codes, ⊤}
-use Rattle.q_io.specs.FilesMeaning.{FilesState, Holds}
-use Rattle.q_io.specs.SinkMeaning.{SinkState, Gains}
-use Rattle.qpu_machine.specs.MachineState.{MachineState, stop_of}
-use Rattle.qpu_machine.specs.declared.state.Stop.{Stop}
-use Rattle.qpu_machine.specs.declared.state.Stop.TheVariants as stop
-use Rattle.vc4c_core.specs.Plan.{Plan, reads, commits, answers, Answer, done, bad_module, bad_launch, broken, unfinished, status_of}
-use Rattle.vc4c_core.specs.ModuleBytes.{module_bytes, module_of, IsCode}
-use Rattle.vc4c_core.specs.LaunchText.{launch_text, launch_of}
-use Rattle.vc4c_core.specs.Report.{report}
-use Rattle.vc4c_core.specs.Small.{machine_after}
-use Rattle.vc4c_core.specs.declared.status.Status.{Status}
-use Rattle.vc4c_core.specs.declared.status.Status.TheVariants.{Done, Memory, Usage, ReadFault, WriteFault, Missing, TooLong, Refused, BadModule, BadLaunch, Broken, Unfinished, NotSafe}
-use Rattle.vc4c_core.specs.declared.module_file.ModuleFault.{ModuleFault}
-use Rattle.vc4c_core.specs.declared.module_file.ModuleFault.TheVariants.{NotModule, Memory as FaultMemory}
+-- The command `exec`: its places.
+use Rattle.std.specs.Prelude.{◌≡◌, ℕ, List, [], ◌∷◌, ◌++◌, Option, Some, None, codes, decimal, ⊤}
+use Rattle.q_io.specs.SinkMeaning.{SinkState}
+use Rattle.q_lane.specs.declared.kinds.Kind.{Kind}
+use Rattle.launch_file.specs.declared.launch.Schedule.{Schedule}
+use Rattle.launch_file.specs.declared.launch.Schedule.TheVariants.{Rounds, Seed, File}
+use Rattle.launch_file.specs.declared.launch.LaunchFault.{LaunchFault}
+use Rattle.launch_file.specs.declared.launch.LaunchFault.TheVariants.{Rule, Memory as LaunchMemory}
+use Rattle.launch_file.specs.Launches.{LaunchOf}
+use Rattle.launch_file.specs.Rules.{first_fault as launch_fault}
+use Rattle.launch_file.specs.Fit.{FaultAt, fit_fault}
+use Rattle.vc4q_module.specs.declared.fault.ModFault.{ModFault}
+use Rattle.vc4q_module.specs.declared.fault.ModFault.TheVariants.{At, Memory as ModuleMemory}
+use Rattle.vc4q_module.specs.ModuleBytes.{ModuleOf, module_in, first_fault as module_fault}
+use Rattle.vc4c_core.specs.Plan.{Plan, reads, commits, answers, bad_module, bad_launch}
+use Rattle.launch_file.specs.LaunchIn.{launch_in}
+use Rattle.vc4c_core.specs.Buffers.{read_buffers}
+use Rattle.vc4c_core.specs.Openings.{opening_for}
+use Rattle.vc4c_core.specs.Play.{play_plan}
 use Rattle.vc4c_core.specs.Lines.{Says}
+use Rattle.vc4c_core.specs.declared.status.Status.{Status}
+use Rattle.vc4c_core.specs.declared.status.Status.TheVariants.{Memory, BadModule, BadLaunch}
 
 -- 40 bytes, and 2 ^ 24 words of 8
 abbrev pub module_limit : ℕ
@@ -23,90 +28,80 @@ module_limit = 134217768
 abbrev pub launch_limit : ℕ
 launch_limit = 65536
 
-abbrev pub answer_of : Stop → Answer
-answer_of stop.Finished = done
-answer_of stop.Going = unfinished
-answer_of (stop.Broken rule k place) = broken
+abbrev pub schedule_limit : ℕ
+schedule_limit = 16777216
 
--- the report of a machine that has stopped or done its schedule
-unfoldable pub report_plan : MachineState → Plan
-report_plan s = answers (answer_of (stop_of s)) (report s)
+-- the line of a module whose first failing test has this place
+unfoldable pub module_line : ℕ → List ℕ
+module_line place = codes "bad module " ++ (decimal place ++ codes "\n")
 
-abbrev pub module_line : List ℕ
-module_line = codes "bad module 0\n"
+-- the line of a launch whose first violated rule is this one, at this line
+unfoldable pub launch_line : ℕ → ℕ → List ℕ
+launch_line rule line = codes "bad launch B" ++ (decimal rule ++ (codes " " ++ (decimal line ++ codes "\n")))
 
-abbrev pub launch_line : List ℕ
-launch_line = codes "bad launch B1 1\n"
+-- the bytes of the schedule's file, of none where the schedule has no file
+abbrev pub read_schedule : Schedule → (List ℕ → Plan) → Plan
+read_schedule (Rounds rounds) next = next []
+read_schedule (Seed seed steps) next = next []
+read_schedule (File name times) next = reads name schedule_limit next
 
--- a file that is no module is refused by its line, and where memory is wanting nothing is written
-abbrev pub RefusesModule : ModuleFault → SinkState → SinkState → Status → Type 0
-RefusesModule NotModule before now result = Says before now module_line BadModule result
-RefusesModule FaultMemory before now result = (now ≡ before) × (result ≡ Memory)
+-- all memory is taken, and then the machine runs
+abbrev pub ready_plan : ModuleOf → LaunchOf → List ℕ → List (List ℕ) → Plan
+ready_plan code launch file buffers = commits (play_plan (opening_for code launch buffers) launch file)
 
-abbrev pub after_launch : List ℕ → Option ℕ → Plan
-after_launch words (Some rounds) = commits (report_plan (machine_after words rounds))
-after_launch words None = answers bad_launch launch_line
+-- from the buffers of a launch on
+unfoldable pub buffers_plan : ModuleOf → LaunchOf → List ℕ → Plan
+buffers_plan code launch file = read_buffers launch.buffers [] (ready_plan code launch file)
 
--- from the read of the launch on
-unfoldable pub launch_plan : List ℕ → List ℕ → Plan
-launch_plan words launch_name = reads launch_name launch_limit (λ bytes. after_launch words (launch_of bytes))
+-- from the schedule's file of a launch that fits on
+unfoldable pub schedule_plan : ModuleOf → LaunchOf → Plan
+schedule_plan code launch = read_schedule launch.schedule (buffers_plan code launch)
 
-abbrev pub after_module : List ℕ → Option (List ℕ) → Plan
-after_module launch_name (Some words) = launch_plan words launch_name
-after_module launch_name None = answers bad_module module_line
+-- the launch fits, or this is its fault
+abbrev pub after_fit : Option FaultAt → ModuleOf → LaunchOf → Plan
+after_fit (Some fault) code launch = answers bad_launch (launch_line fault.rule fault.line)
+after_fit None code launch = schedule_plan code launch
+
+-- from the fit on
+unfoldable pub fit_plan : List (List ℕ) → ModuleOf → LaunchOf → Plan
+fit_plan taken code launch = after_fit (fit_fault launch code.kinds taken) code launch
+
+-- the bytes are the text of a launch, or this is their fault
+abbrev pub after_launch : Option (ℕ × ℕ) → List (List ℕ) → ModuleOf → LaunchOf → Plan
+after_launch (Some fault) taken code launch = answers bad_launch (launch_line fault.0 fault.1)
+after_launch None taken code launch = fit_plan taken code launch
+
+-- from the read of the launch on; `taken` are the files that the command names
+unfoldable pub launch_plan : List (List ℕ) → ModuleOf → List ℕ → Plan
+launch_plan taken code launch_name = reads launch_name launch_limit (λ bytes. after_launch (launch_fault bytes) taken code (launch_in bytes))
+
+-- the bytes are those of a module, or the first failing test has this place
+abbrev pub after_module : Option ℕ → List (List ℕ) → ModuleOf → List ℕ → Plan
+after_module (Some place) taken code launch_name = answers bad_module (module_line place)
+after_module None taken code launch_name = launch_plan taken code launch_name
+
+unfoldable pub module_plan : List (List ℕ) → List ℕ → List ℕ → Plan
+module_plan taken module_name launch_name = reads module_name module_limit (λ bytes. after_module (module_fault bytes) taken (module_in bytes) launch_name)
 
 unfoldable pub exec_plan : List ℕ → List ℕ → Plan
-exec_plan module_name launch_name = reads module_name module_limit (λ bytes. after_module launch_name (module_of bytes))
+exec_plan module_name launch_name = module_plan (module_name ∷ launch_name ∷ []) module_name launch_name
 
--- the answers of a machine's run
-abbrev pub IsRunStatus : Status → Type 0
-IsRunStatus Done = ⊤
-IsRunStatus Broken = ⊤
-IsRunStatus Unfinished = ⊤
-IsRunStatus Memory = ⊥
-IsRunStatus Usage = ⊥
-IsRunStatus ReadFault = ⊥
-IsRunStatus WriteFault = ⊥
-IsRunStatus Missing = ⊥
-IsRunStatus TooLong = ⊥
-IsRunStatus Refused = ⊥
-IsRunStatus BadModule = ⊥
-IsRunStatus BadLaunch = ⊥
-IsRunStatus NotSafe = ⊥
+-- a file that is no module is refused by its line, and where memory is wanting nothing is written
+abbrev pub RefusesModule : ModFault → SinkState → SinkState → Status → Type 0
+RefusesModule (At place) before now result = Says before now (module_line place) BadModule result
+RefusesModule ModuleMemory before now result = (now ≡ before) × (result ≡ Memory)
 
--- The machine's run came to its stop: the module and the launch that were read, the status and the report of the run, and no file changed.
-pub record Executed (module_name launch_name : List ℕ) (before : FilesState) (out_before : SinkState) (now : FilesState) (out_now : SinkState) (result : Status) : Type 0 where
-  pub words : List ℕ
-  pub rounds : ℕ
-  pub code : IsCode words
-  pub module_file : Holds before module_name (module_bytes words)
-  pub few : rounds < 2 ^ 64
-  pub launch_file : Holds before launch_name (launch_text rounds)
-  pub status : result ≡ status_of (answer_of (stop_of (machine_after words rounds)))
-  pub files : now.told ≡ before.told
-  pub line : Gains out_before out_now (report (machine_after words rounds))
+-- a launch with a fault is refused by its line, and where memory is wanting nothing is written
+abbrev pub RefusesLaunch : LaunchFault → SinkState → SinkState → Status → Type 0
+RefusesLaunch (Rule rule line) before now result = Says before now (launch_line rule line) BadLaunch result
+RefusesLaunch LaunchMemory before now result = (now ≡ before) × (result ≡ Memory)
 
--- The module's file is the spelling of no module, and the line says so.
-pub record RefusedModule (module_name : List ℕ) (before : FilesState) (out_before : SinkState) (now : FilesState) (out_now : SinkState) : Type 0 where
-  pub bytes : List ℕ
-  pub read : Holds before module_name bytes
-  pub no_module : (words : List ℕ) → IsCode words → bytes ≢ module_bytes words
-  pub files : now.told ≡ before.told
-  pub line : Gains out_before out_now module_line
+-- a module isn't read because of the fault that it has, or for want of memory
+abbrev pub IsModuleFault : Option ℕ → ModFault → Type 0
+IsModuleFault there (At place) = there ≡ Some place
+IsModuleFault there ModuleMemory = ⊤
 
--- The module's file is one, the launch's file is the text of no launch, and the line says so.
-pub record RefusedLaunch (module_name launch_name : List ℕ) (before : FilesState) (out_before : SinkState) (now : FilesState) (out_now : SinkState) : Type 0 where
-  pub words : List ℕ
-  pub code : IsCode words
-  pub module_file : Holds before module_name (module_bytes words)
-  pub bytes : List ℕ
-  pub read : Holds before launch_name bytes
-  pub no_launch : (rounds : ℕ) → rounds < 2 ^ 64 → bytes ≢ launch_text rounds
-  pub files : now.told ≡ before.told
-  pub line : Gains out_before out_now launch_line
-
--- What each answer of the program's own says: the stop of the run, a file that is no module, a file that is no launch.
-pub record ExecAnswers (module_name launch_name : List ℕ) (before : FilesState) (out_before : SinkState) (now : FilesState) (out_now : SinkState) (result : Status) : Type 0 where
-  pub run : IsRunStatus result → Executed module_name launch_name before out_before now out_now result
-  pub bad_module : result ≡ BadModule → RefusedModule module_name before out_before now out_now
-  pub bad_launch : result ≡ BadLaunch → RefusedLaunch module_name launch_name before out_before now out_now
+-- a launch isn't read because of the fault that it has, or for want of memory
+abbrev pub IsLaunchFault : Option (ℕ × ℕ) → LaunchFault → Type 0
+IsLaunchFault there (Rule rule line) = there ≡ Some (rule, line)
+IsLaunchFault there LaunchMemory = ⊤

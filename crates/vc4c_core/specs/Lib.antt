@@ -3,8 +3,9 @@ pub mod Plan
 pub mod Due
 pub mod StatusCode
 pub mod Report
-pub mod Small
-pub mod ModuleBytes
-pub mod LaunchText
+pub mod Buffers
+pub mod Play
+pub mod Openings
 pub mod Exec
+pub mod ExecClauses
 pub mod Commands

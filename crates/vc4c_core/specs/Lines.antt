@@ -6,19 +6,21 @@ use Rattle.q_io.specs.declared.Put.TheVariants.{Done as WasPut, Failed as PutFai
 use Rattle.vc4c_core.specs.declared.status.Status.{Status}
 use Rattle.vc4c_core.specs.declared.status.Status.TheVariants.{Memory, ReadFault, WriteFault, Missing, TooLong}
 use Rattle.vc4c_core.specs.declared.places.Trouble.{Trouble}
-use Rattle.vc4c_core.specs.declared.places.Trouble.TheVariants.{Missing as IsMissing, TooLong as IsTooLong, ReadFault as IsReadFault, Memory as IsMemory}
+use Rattle.vc4c_core.specs.declared.places.Trouble.TheVariants.{Missing as IsMissing, TooLong as IsTooLong, ReadFault as IsReadFault, WriteFault as IsWriteFault, Memory as IsMemory}
 
 -- the line of a trouble with a file
 abbrev pub trouble_line : Trouble → List ℕ → List ℕ
 trouble_line IsMissing name = codes "missing " ++ (name ++ codes "\n")
 trouble_line IsTooLong name = codes "too long " ++ (name ++ codes "\n")
 trouble_line IsReadFault name = codes "read fault " ++ (name ++ codes "\n")
+trouble_line IsWriteFault name = codes "write fault " ++ (name ++ codes "\n")
 trouble_line IsMemory name = []
 
 abbrev pub trouble_status : Trouble → Status
 trouble_status IsMissing = Missing
 trouble_status IsTooLong = TooLong
 trouble_status IsReadFault = ReadFault
+trouble_status IsWriteFault = WriteFault
 trouble_status IsMemory = Memory
 
 -- the status after its line was put, or wasn't
@@ -39,4 +41,5 @@ abbrev pub SaysTrouble : SinkState → SinkState → Trouble → List ℕ → St
 SaysTrouble before now IsMissing name result = Says before now (trouble_line IsMissing name) Missing result
 SaysTrouble before now IsTooLong name result = Says before now (trouble_line IsTooLong name) TooLong result
 SaysTrouble before now IsReadFault name result = Says before now (trouble_line IsReadFault name) ReadFault result
+SaysTrouble before now IsWriteFault name result = Says before now (trouble_line IsWriteFault name) WriteFault result
 SaysTrouble before now IsMemory name result = (now ≡ before) × (result ≡ Memory)

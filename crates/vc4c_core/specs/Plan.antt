@@ -1,13 +1,13 @@
 -- A command as its places in order, and what a run of it may do.
-use Rattle.std.specs.Prelude.{◌≡◌, ◌⊎◌, ℕ, ◌≤◌, Bool, true, false, List, length}
+use Rattle.std.specs.Prelude.{◌≡◌, ◌⊎◌, ℕ, ◌≤◌, Bool, true, false, List, length, slice_index, ◌<◌, Some, option_map, ⊤}
 use Rattle.q_io.specs.Rose.{Rose}
-use Rattle.q_io.specs.FilesMeaning.{FilesState, FilesCountsStay, Holds, Lacks, Passes}
+use Rattle.q_io.specs.FilesMeaning.{FilesState, FilesCountsStay, Holds, Lacks, Passes, Spoils, with_file}
 use Rattle.q_io.specs.SinkMeaning.{SinkState}
 use Rattle.vc4c_core.specs.Lines.{Says, SaysTrouble}
 use Rattle.vc4c_core.specs.declared.status.Status.{Status}
 use Rattle.vc4c_core.specs.declared.status.Status.TheVariants.{Done, Memory, BadModule, BadLaunch, Broken, Unfinished}
 use Rattle.vc4c_core.specs.declared.places.Trouble.{Trouble}
-use Rattle.vc4c_core.specs.declared.places.Trouble.TheVariants.{Missing as IsMissing, TooLong as IsTooLong, ReadFault as IsReadFault, Memory as IsMemory}
+use Rattle.vc4c_core.specs.declared.places.Trouble.TheVariants.{Missing as IsMissing, TooLong as IsTooLong, ReadFault as IsReadFault, WriteFault as IsWriteFault, Memory as IsMemory}
 
 -- the answers of a command that met no trouble at its places
 pub data Answer : Type 0 where
@@ -28,24 +28,41 @@ status_of unfinished = Unfinished
 pub data Plan : Type 0 where
   -- it reads a file of at most so many bytes, and goes on with these
   reads : (name : List ℕ) (limit : ℕ) (next : List ℕ → Plan) → Plan
+  -- it writes a file
+  writes : (name bytes : List ℕ) (next : Plan) → Plan
   -- from here on it asks for no memory: the machine's first step
   commits : (next : Plan) → Plan
   -- it writes its line and ends
   answers : (answer : Answer) (line : List ℕ) → Plan
 
--- the file was read: no file has changed, and these are its bytes where the files are told
+-- the file was read: no file has changed, and these bytes are its own where the files are told
 pub record HasRead (before now : FilesState) (name : List ℕ) (limit : ℕ) (bytes : List ℕ) : Type 0 where
   pub counts : FilesCountsStay before now
   pub files : now.told ≡ before.told
   pub fits : length bytes ≤ limit
+  pub are_bytes : (i : ℕ) → slice_index bytes i < 256
   pub holds : Holds before name bytes
+
+-- the file was written, and no other has changed
+pub record HasWritten (before now : FilesState) (name bytes : List ℕ) : Type 0 where
+  pub counts : FilesCountsStay before now
+  pub files : now.told ≡ option_map (with_file name (Some bytes)) before.told
 
 -- what stops a read, with its cause
 abbrev pub ReadTrouble : FilesState → FilesState → List ℕ → ℕ → Trouble → Type 0
 ReadTrouble before now name limit IsMissing = Rose before.misses now.misses × Lacks before name
 ReadTrouble before now name limit IsTooLong = Rose before.over_long now.over_long × Passes before name limit
 ReadTrouble before now name limit IsReadFault = Rose before.read_faults now.read_faults
+ReadTrouble before now name limit IsWriteFault = ⊥
 ReadTrouble before now name limit IsMemory = Rose before.shortages now.shortages
+
+-- what stops a write, with its cause
+abbrev pub WriteTrouble : FilesState → FilesState → Trouble → Type 0
+WriteTrouble before now IsMissing = ⊥
+WriteTrouble before now IsTooLong = ⊥
+WriteTrouble before now IsReadFault = ⊥
+WriteTrouble before now IsWriteFault = Rose before.write_faults now.write_faults
+WriteTrouble before now IsMemory = Rose before.shortages now.shortages
 
 -- a read stopped the command, with no file changed
 pub record StopsAtRead (before now : FilesState) (out_before out_now : SinkState) (name : List ℕ) (limit : ℕ) (result : Status) : Type 0 where
@@ -53,6 +70,14 @@ pub record StopsAtRead (before now : FilesState) (out_before out_now : SinkState
   pub files : now.told ≡ before.told
   pub trouble : Trouble
   pub cause : ReadTrouble before now name limit trouble
+  pub says : SaysTrouble out_before out_now trouble name result
+
+-- a write stopped the command: its file may hold anything, and no other has changed
+pub record StopsAtWrite (before now : FilesState) (out_before out_now : SinkState) (name : List ℕ) (result : Status) : Type 0 where
+  pub counts : FilesCountsStay before now
+  pub files : Spoils before now name
+  pub trouble : Trouble
+  pub cause : WriteTrouble before now trouble
   pub says : SaysTrouble out_before out_now trouble name result
 
 -- want of memory, while memory may be asked for: nothing has changed and nothing is written
@@ -68,9 +93,25 @@ Ends asks (reads name limit next) before out_before now out_now result =
     GivesUp asks before now out_before out_now result
     ⊎ (StopsAtRead before now out_before out_now name limit result
     ⊎ ((bytes : List ℕ) × (mid : FilesState) × HasRead before mid name limit bytes × Ends asks (next bytes) mid out_before now out_now result))
+Ends asks (writes name bytes next) before out_before now out_now result =
+    GivesUp asks before now out_before out_now result
+    ⊎ (StopsAtWrite before now out_before out_now name result
+    ⊎ ((mid : FilesState) × HasWritten before mid name bytes × Ends asks next mid out_before now out_now result))
 Ends asks (commits next) before out_before now out_now result =
     GivesUp asks before now out_before out_now result
     ⊎ Ends false next before out_before now out_now result
 Ends asks (answers answer line) before out_before now out_now result =
     GivesUp asks before now out_before out_now result
     ⊎ ((now ≡ before) × Says out_before out_now line (status_of answer) result)
+
+-- each end of a run of the rest is an end of a run of the plan
+abbrev pub Leads : Bool → Plan → FilesState → SinkState → Plan → FilesState → SinkState → Type 0
+Leads asks plan before out_before rest mid out_mid =
+    (now : FilesState) (out_now : SinkState) (result : Status) → Ends asks rest mid out_mid now out_now result → Ends asks plan before out_before now out_now result
+
+-- a plan whose writes all come once no more memory is asked for
+abbrev pub WritesLate : Plan → Type 0
+WritesLate (reads name limit next) = (bytes : List ℕ) → WritesLate (next bytes)
+WritesLate (writes name bytes next) = ⊥
+WritesLate (commits next) = ⊤
+WritesLate (answers answer line) = ⊤

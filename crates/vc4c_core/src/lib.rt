@@ -4,26 +4,27 @@
 ghost use Rattle.std.specs.Prelude.{◌≡◌, ◌⊎◌, true, map, string_bytes, IfSome, None};
 ghost use Rattle.q_io.specs.Rose.{Rose};
 ghost use Rattle.vc4c_core.specs.Commands.{plan_of, due_for, usage_line, Runs, IfExec};
-ghost use Rattle.vc4c_core.specs.Due.{EndsAsDue, IsQuiet};
+ghost use Rattle.vc4c_core.specs.Due.{EndsAsDue, IsQuiet, OnlyWrites, ShortOrKept};
 ghost use Rattle.vc4c_core.specs.Lines.{Says};
-ghost use Rattle.vc4c_core.specs.Exec.{ExecAnswers};
+ghost use Rattle.vc4c_core.specs.ExecClauses.{ExecAnswers};
 
 use crate::command::{Command, command_of};
 use crate::exec::exec;
 use crate::places::say;
+pub use crate::playing::{Ready, play};
 pub use crate::status::{Status, code};
 use q_io::{Files, Sink};
 use std::alloc::Global;
 
+mod buffers;
 mod command;
 mod exec;
-mod launch_text;
 mod lines;
-mod module_file;
+mod names;
+mod opening;
 mod places;
-mod play;
+mod playing;
 mod report;
-mod small;
 mod status;
 
 const USAGE: &[u8] =
@@ -72,14 +73,13 @@ pub fn run<F: Files, S: Sink>(alloc: Global, words: &[String], files: &mut F, ou
         ExecAnswers module_name launch_name
         (F.state files.old) (S.state out.old) (F.state files.new) (S.state out.new) result) }
 
-    // No file is ever changed.
-    ensures files { (F.state files.new).told ≡ (F.state files.old).told }
+    // No file changes but those that are due to be written.
+    ensures files { IfSome (F.state files.old).told (λ tree.
+        OnlyWrites (due_for (plan_of (map string_bytes words.now)) tree).places tree (F.state files.new)) }
 
-    // Want of memory without a counted shortage has written nothing.
+    // Want of memory without a counted shortage has changed no file and written nothing.
     ensures memory { result ≡ Status.Memory
-        → Rose (F.state files.old).shortages (F.state files.new).shortages
-        ⊎ (Rose (S.state out.old).shortages (S.state out.new).shortages
-        ⊎ ((S.state out.new) ≡ (S.state out.old))) }
+        → ShortOrKept (F.state files.old) (S.state out.old) (F.state files.new) (S.state out.new) }
 
     // A fault, a missing file and an over-long file are answered only where such a thing came in
     // this call.
@@ -114,5 +114,7 @@ pub fn run<F: Files, S: Sink>(alloc: Global, words: &[String], files: &mut F, ou
 
 #[cfg(test)]
 mod fault_tests;
+#[cfg(test)]
+mod launch_tests;
 #[cfg(test)]
 mod tests;

@@ -4,9 +4,9 @@ use std::alloc::{AllocError, Global};
 use std::collections::BTreeMap;
 use std::test::Fail;
 
-const NOP: u64 = 0x1000_09E7_009E_7000;
+pub const NOP: u64 = 0x1000_09E7_009E_7000;
 
-const END: u64 = 0x3000_09E7_009E_7000;
+pub const END: u64 = 0x3000_09E7_009E_7000;
 
 // 5 to r0, and 1 more; 5 to a0, and a0 to r0.
 const SET_R0: u64 = 0xE002_0827_0000_0005;
@@ -20,9 +20,9 @@ const READ_A0: u64 = 0x1002_0827_1502_7D80;
 // A uniform is read; the mutex is acquired, and released.
 const READ_UNIFORM: u64 = 0x1000_09E7_0082_7000;
 
-const ACQUIRE: u64 = 0x1000_09E7_00CE_7000;
+pub const ACQUIRE: u64 = 0x1000_09E7_00CE_7000;
 
-const RELEASE: u64 = 0xE002_0CE7_0000_0000;
+pub const RELEASE: u64 = 0xE002_0CE7_0000_0000;
 
 // A branch to one word before its own place.
 const BACK: u64 = 0xF0F8_09E7_FFFF_FFD8;
@@ -37,7 +37,7 @@ pub const FOUR_WORDS: [u8; 72] = [
 ];
 
 /// The bytes of a module of these words, by hand from its layout.
-fn module(alloc: Global, words: &[u64]) -> Result<Vec<u8>, AllocError> {
+pub fn module(alloc: Global, words: &[u64]) -> Result<Vec<u8>, AllocError> {
     let mut bytes = Vec::from_slice(alloc, b"VC4Q\x01\0\0\0\0\0\0\0")?;
     bytes.extend_from_slice(&(words.len() as u64).to_le_bytes()[..4])?;
     bytes.extend_from_slice(&[0; 4])?;
@@ -114,7 +114,7 @@ fn report(
 fn runs_end_as_their_words_say(rt: HostRuntime) -> Result<(), Fail> {
     let alloc = rt.alloc();
     let four: &[u64] = &[NOP, END, NOP, NOP];
-    let rows: &[(&[u64], &str, u8, &str, &str, &str)] = &[
+    let rows: &[(&[u64], &str, u8, &str, &str, &str, &str)] = &[
         (
             four,
             "1000",
@@ -122,6 +122,7 @@ fn runs_end_as_their_words_say(rt: HostRuntime) -> Result<(), Fail> {
             "stop finished",
             "4",
             "ended place 4 issued 4",
+            "00000000",
         ),
         (
             four,
@@ -130,8 +131,17 @@ fn runs_end_as_their_words_say(rt: HostRuntime) -> Result<(), Fail> {
             "stop finished",
             "4",
             "ended place 4 issued 4",
+            "00000000",
         ),
-        (four, "4", 0, "stop finished", "4", "ended place 4 issued 4"),
+        (
+            four,
+            "4",
+            0,
+            "stop finished",
+            "4",
+            "ended place 4 issued 4",
+            "00000000",
+        ),
         (
             four,
             "3",
@@ -139,6 +149,7 @@ fn runs_end_as_their_words_say(rt: HostRuntime) -> Result<(), Fail> {
             "stop unfinished",
             "3",
             "running place 3 issued 3",
+            "00000000",
         ),
         (
             four,
@@ -147,6 +158,7 @@ fn runs_end_as_their_words_say(rt: HostRuntime) -> Result<(), Fail> {
             "stop unfinished",
             "1",
             "running place 1 issued 1",
+            "00000000",
         ),
         (
             four,
@@ -155,6 +167,7 @@ fn runs_end_as_their_words_say(rt: HostRuntime) -> Result<(), Fail> {
             "stop unfinished",
             "0",
             "running place 0 issued 0",
+            "00000000",
         ),
         (
             &[NOP],
@@ -163,6 +176,7 @@ fn runs_end_as_their_words_say(rt: HostRuntime) -> Result<(), Fail> {
             "stop broken H0 qpu 0 place 1",
             "1",
             "running place 1 issued 1",
+            "00000000",
         ),
         (
             &[0, NOP, END, NOP, NOP],
@@ -171,6 +185,7 @@ fn runs_end_as_their_words_say(rt: HostRuntime) -> Result<(), Fail> {
             "stop broken H0 qpu 0 place 0",
             "0",
             "running place 0 issued 0",
+            "00000000",
         ),
         (
             &[END, NOP, END, NOP, NOP],
@@ -179,6 +194,7 @@ fn runs_end_as_their_words_say(rt: HostRuntime) -> Result<(), Fail> {
             "stop broken H6 qpu 0 place 2",
             "2",
             "running place 2 issued 2",
+            "00000000",
         ),
         (
             &[NOP, END, NOP],
@@ -187,27 +203,11 @@ fn runs_end_as_their_words_say(rt: HostRuntime) -> Result<(), Fail> {
             "stop broken H0 qpu 0 place 3",
             "3",
             "running place 3 issued 3",
+            "00000000",
         ),
-    ];
-    for (code_words, rounds, status, stop, issued, qpu) in rows {
-        let (got, text) = answer(
-            alloc,
-            "exec m l",
-            &module(alloc, code_words)?,
-            &small_launch(alloc, rounds)?,
-        )?;
-        assert_eq!(rt; code(got), *status, "rounds {rounds}, {stop}");
-        assert!(rt; text.as_slice() == report(alloc, stop, issued, qpu, "00000000")?.as_bytes());
-    }
-    Ok(())
-}
-
-#[test]
-fn words_compute_and_break_restrictions(rt: HostRuntime) -> Result<(), Fail> {
-    let alloc = rt.alloc();
-    let rows: &[(&[u64], u8, &str, &str, &str, &str)] = &[
         (
             &[SET_R0, ADD_1, END, NOP, NOP],
+            "1000",
             0,
             "stop finished",
             "5",
@@ -216,6 +216,7 @@ fn words_compute_and_break_restrictions(rt: HostRuntime) -> Result<(), Fail> {
         ),
         (
             &[SET_A0, READ_A0, END, NOP, NOP],
+            "1000",
             10,
             "stop broken H1 qpu 0 place 1",
             "1",
@@ -224,6 +225,7 @@ fn words_compute_and_break_restrictions(rt: HostRuntime) -> Result<(), Fail> {
         ),
         (
             &[SET_A0, NOP, READ_A0, END, NOP, NOP],
+            "1000",
             0,
             "stop finished",
             "6",
@@ -232,6 +234,7 @@ fn words_compute_and_break_restrictions(rt: HostRuntime) -> Result<(), Fail> {
         ),
         (
             &[END, NOP, READ_UNIFORM],
+            "1000",
             10,
             "stop broken H7 qpu 0 place 2",
             "2",
@@ -240,6 +243,7 @@ fn words_compute_and_break_restrictions(rt: HostRuntime) -> Result<(), Fail> {
         ),
         (
             &[ACQUIRE, ACQUIRE],
+            "1000",
             10,
             "stop broken H8 qpu 0 place 1",
             "1",
@@ -248,6 +252,7 @@ fn words_compute_and_break_restrictions(rt: HostRuntime) -> Result<(), Fail> {
         ),
         (
             &[RELEASE],
+            "1000",
             10,
             "stop broken H8 qpu 0 place 0",
             "0",
@@ -256,6 +261,7 @@ fn words_compute_and_break_restrictions(rt: HostRuntime) -> Result<(), Fail> {
         ),
         (
             &[BACK, NOP, NOP, NOP],
+            "1000",
             10,
             "stop broken H0 qpu 0 place 4294967295",
             "4",
@@ -263,9 +269,14 @@ fn words_compute_and_break_restrictions(rt: HostRuntime) -> Result<(), Fail> {
             "00000000",
         ),
     ];
-    for (code_words, status, stop, issued, qpu, r0) in rows {
-        let (got, text) = answer(alloc, "exec m l", &module(alloc, code_words)?, LAUNCH)?;
-        assert_eq!(rt; code(got), *status, "{stop}");
+    for (code_words, rounds, status, stop, issued, qpu, r0) in rows {
+        let (got, text) = answer(
+            alloc,
+            "exec m l",
+            &module(alloc, code_words)?,
+            &small_launch(alloc, rounds)?,
+        )?;
+        assert_eq!(rt; code(got), *status, "rounds {rounds}, {stop}");
         assert!(rt; text.as_slice() == report(alloc, stop, issued, qpu, r0)?.as_bytes());
     }
     Ok(())
@@ -297,35 +308,11 @@ fn words_of_no_form_are_usage(rt: HostRuntime) -> Result<(), Fail> {
     Ok(())
 }
 
-#[test]
-fn other_modules_are_refused(rt: HostRuntime) -> Result<(), Fail> {
-    let alloc = rt.alloc();
-    for bytes in [
-        &FOUR_WORDS[..71],
-        &FOUR_WORDS[..40],
-        b"".as_slice(),
-        b"VC4Q".as_slice(),
-    ] {
-        let (got, text) = answer(alloc, "exec m l", bytes, LAUNCH)?;
-        assert_eq!(rt; code(got), 8);
-        assert!(rt; text.as_slice() == b"bad module 0\n".as_slice());
+/// The text with a line's end at each `/`.
+pub fn lines_of(alloc: Global, text: &str) -> Result<Vec<u8>, AllocError> {
+    let mut bytes = Vec::with_capacity(alloc, text.len())?;
+    for byte in text.as_bytes() {
+        bytes.push(if *byte == b'/' { b'\n' } else { *byte })?;
     }
-    Ok(())
-}
-
-#[test]
-fn other_launches_are_refused(rt: HostRuntime) -> Result<(), Fail> {
-    let alloc = rt.alloc();
-    for other in [
-        "",
-        "launch 1\nqpus 13\nglobal 1\nlocal 1\nschedule rr 1000\n",
-        "launch 1\nqpus 1\nglobal 1\nlocal 1\nschedule rr 01000\n",
-        "launch 1\nqpus 1\nglobal 1\nlocal 1\nschedule rr 18446744073709551616\n",
-        "launch 1\nqpus 1\nglobal 1\nlocal 1\nschedule rr 1000",
-    ] {
-        let (got, text) = answer(alloc, "exec m l", &FOUR_WORDS, other)?;
-        assert_eq!(rt; code(got), 9, "at {other}");
-        assert!(rt; text.as_slice() == b"bad launch B1 1\n".as_slice());
-    }
-    Ok(())
+    Ok(bytes)
 }

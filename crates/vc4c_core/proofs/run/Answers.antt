@@ -1,4 +1,5 @@
 use Rattle.vc4c_core.proofs.Clauses.{runs_due, runs_quiet, runs_usage, runs_no_form, runs_files, runs_caused}
+use Rattle.vc4c_core.proofs.Shortage.{runs_short}
 use Rattle.vc4c_core.proofs.ExecDone.{runs_answers}
 use Rattle.vc4c_core.proofs.run.Goals as goal
 
@@ -10,7 +11,7 @@ returns g c =
       no_form = runs_no_form _ _ _ _ _ _ c.run_words.ensures;
       exec = runs_answers _ _ _ _ _ _ c.run_words.ensures;
       files = runs_files _ _ _ _ _ _ c.run_words.ensures;
-      memory = caused.memory;
+      memory = runs_short _ _ _ _ _ _ c.run_words.ensures;
       read_fault = caused.read_fault;
       write_fault = caused.write_fault;
       missing = caused.missing;
