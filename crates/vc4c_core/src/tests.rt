@@ -39,7 +39,8 @@ pub const FOUR_WORDS: [u8; 72] = [
 /// The bytes of a module of these words, by hand from its layout.
 pub fn module(alloc: Global, words: &[u64]) -> Result<Vec<u8>, AllocError> {
     let mut bytes = Vec::from_slice(alloc, b"VC4Q\x01\0\0\0\0\0\0\0")?;
-    bytes.extend_from_slice(&(words.len() as u64).to_le_bytes()[..4])?;
+    // A row has fewer than 256 words.
+    bytes.extend_from_slice(&[(words.len() % 256) as u8, 0, 0, 0])?;
     bytes.extend_from_slice(&[0; 4])?;
     bytes.extend_from_slice(&[0xFF; 16])?;
     bytes.extend_from_slice(&[0; 4])?;
@@ -110,8 +111,28 @@ fn report(
     Ok(text)
 }
 
+/// The status of a module of these words after so many rounds, and whether the report is this one.
+fn ends(
+    alloc: Global,
+    code_words: &[u64],
+    rounds: &str,
+    stop: &str,
+    issued: &str,
+    qpu: &str,
+    r0: &str,
+) -> Result<(u8, bool), AllocError> {
+    let (got, text) = answer(
+        alloc,
+        "exec m l",
+        &module(alloc, code_words)?,
+        &small_launch(alloc, rounds)?,
+    )?;
+    let want = report(alloc, stop, issued, qpu, r0)?;
+    Ok((code(got), text.as_slice() == want.as_bytes()))
+}
+
 #[test]
-fn runs_end_as_their_words_say(rt: HostRuntime) -> Result<(), Fail> {
+fn runs_end_as_their_schedules_say(rt: HostRuntime) -> Result<(), Fail> {
     let alloc = rt.alloc();
     let four: &[u64] = &[NOP, END, NOP, NOP];
     let rows: &[(&[u64], &str, u8, &str, &str, &str, &str)] = &[
@@ -187,6 +208,19 @@ fn runs_end_as_their_words_say(rt: HostRuntime) -> Result<(), Fail> {
             "running place 0 issued 0",
             "00000000",
         ),
+    ];
+    for (code_words, rounds, status, stop, issued, qpu, r0) in rows {
+        let (got, same) = ends(alloc, code_words, rounds, stop, issued, qpu, r0)?;
+        assert_eq!(rt; got, *status, "rounds {rounds}, {stop}");
+        assert!(rt; same);
+    }
+    Ok(())
+}
+
+#[test]
+fn runs_end_as_their_words_say(rt: HostRuntime) -> Result<(), Fail> {
+    let alloc = rt.alloc();
+    let rows: &[(&[u64], &str, u8, &str, &str, &str, &str)] = &[
         (
             &[END, NOP, END, NOP, NOP],
             "1000",
@@ -270,14 +304,9 @@ fn runs_end_as_their_words_say(rt: HostRuntime) -> Result<(), Fail> {
         ),
     ];
     for (code_words, rounds, status, stop, issued, qpu, r0) in rows {
-        let (got, text) = answer(
-            alloc,
-            "exec m l",
-            &module(alloc, code_words)?,
-            &small_launch(alloc, rounds)?,
-        )?;
-        assert_eq!(rt; code(got), *status, "rounds {rounds}, {stop}");
-        assert!(rt; text.as_slice() == report(alloc, stop, issued, qpu, r0)?.as_bytes());
+        let (got, same) = ends(alloc, code_words, rounds, stop, issued, qpu, r0)?;
+        assert_eq!(rt; got, *status, "rounds {rounds}, {stop}");
+        assert!(rt; same);
     }
     Ok(())
 }
@@ -308,11 +337,17 @@ fn words_of_no_form_are_usage(rt: HostRuntime) -> Result<(), Fail> {
     Ok(())
 }
 
-/// The text with a line's end at each `/`.
+/// The text with a line's end at each `/`, and sixteen zero words at each `*`.
 pub fn lines_of(alloc: Global, text: &str) -> Result<Vec<u8>, AllocError> {
     let mut bytes = Vec::with_capacity(alloc, text.len())?;
     for byte in text.as_bytes() {
-        bytes.push(if *byte == b'/' { b'\n' } else { *byte })?;
+        if *byte == b'*' {
+            for _ in 0..16 {
+                bytes.extend_from_slice(b" 00000000")?;
+            }
+        } else {
+            bytes.push(if *byte == b'/' { b'\n' } else { *byte })?;
+        }
     }
     Ok(bytes)
 }
