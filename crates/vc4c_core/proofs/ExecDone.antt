@@ -21,6 +21,7 @@ use Rattle.std.proofs.lemmas.List.{get_or_default}
 use Rattle.qpu_machine.specs.MachineState.{MachineState, stop_of}
 use Rattle.qpu_machine.specs.declared.state.Stop.{Stop}
 use Rattle.qpu_machine.specs.declared.state.Stop.TheVariants as stop
+use Rattle.vc4c_core.proofs.LaunchValid.{launch_of_text}
 use Rattle.vc4c_core.specs.Lines.{Says, SaysTrouble, status_after}
 use Rattle.vc4c_core.specs.Plan.{Plan, Ends, HasRead, status_of}
 use Rattle.vc4c_core.specs.Report.{report}
@@ -195,6 +196,8 @@ report_end module_name launch_name code text file buffers before mid last now ou
         module_is = given.module_is;
         module_file = given.module_file;
         launch_file = given.launch_file;
+        launch_is = (launch_of_text text none).0;
+        spelling = (launch_of_text text none).1;
         no_fault = none;
         fits = fits;
         schedule_file = schedule;

@@ -11,3 +11,4 @@ pub mod Caused
 pub mod Clauses
 pub mod Shortage
 pub mod ExecDone
+pub mod LaunchValid

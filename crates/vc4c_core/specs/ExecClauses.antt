@@ -6,7 +6,8 @@ use Rattle.q_lane.specs.declared.kinds.Kind.{Kind}
 use Rattle.launch_file.specs.declared.launch.BufferLine.{BufferLine}
 use Rattle.launch_file.specs.declared.launch.Schedule.{Schedule}
 use Rattle.launch_file.specs.declared.launch.Schedule.TheVariants.{Rounds, Seed, File}
-use Rattle.launch_file.specs.Launches.{LaunchOf}
+use Rattle.launch_file.specs.Launches.{LaunchOf, IsLaunch}
+use Rattle.launch_file.specs.LaunchText.{launch_text}
 use Rattle.launch_file.specs.LaunchIn.{launch_in}
 use Rattle.launch_file.specs.Rules.{first_fault as launch_fault}
 use Rattle.launch_file.specs.Fit.{FaultAt, fit_fault}
@@ -83,6 +84,8 @@ pub record Executed (module_name launch_name : List ℕ) (before : FilesState) (
   pub module_is : IsModule code
   pub module_file : Holds before module_name (module_bytes code)
   pub launch_file : Holds before launch_name text
+  pub launch_is : IsLaunch (launch_in text)
+  pub spelling : text ≡ launch_text (launch_in text)
   pub no_fault : launch_fault text ≡ None
   pub fits : fit_fault (launch_in text) code.kinds (module_name ∷ launch_name ∷ []) ≡ None
   pub schedule_file : IsScheduleFile before (launch_in text).schedule file

@@ -59,8 +59,8 @@ fn run_words<F: Files, S: Sink>(
 
 /// Does what the words ask for, and answers how it went.
 ///
-/// `exec MODULE LAUNCH` runs the module by the launch and writes the report of the run. All memory
-/// is taken before the machine's first step.
+/// `exec MODULE LAUNCH` runs the module by the launch, writes the buffers with an output name and then
+/// the report of the run. All memory is taken before the machine's first step.
 pub fn run<F: Files, S: Sink>(alloc: Global, words: &[String], files: &mut F, out: &mut S) -> Status
     // Usage is answered only where the words are of no form, and then its line is all that is done.
     ensures usage { result ≡ Status.Usage → plan_of (map string_bytes words.now) ≡ None }
