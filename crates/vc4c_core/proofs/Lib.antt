@@ -12,3 +12,4 @@ pub mod Clauses
 pub mod Shortage
 pub mod ExecDone
 pub mod LaunchValid
+pub mod GapLaws

@@ -1,5 +1,5 @@
 -- The plan of a module and a launch is one that a machine may be begun with.
-use Rattle.std.proofs.Common.{zero, suc, ◌≡◌, ◌⊎◌, inl, inr, ℕ, ◌+◌, ◌-◌, ◌*◌, ◌<◌, ◌≤◌, ◌^◌, List, [], ◌∷◌, ◌++◌, length, replicate, get_or, map, flat_map, refl, sym, ap, ◌∙◌, subst, arith}
+use Rattle.std.proofs.Common.{zero, suc, ◌≡◌, inl, inr, ℕ, ◌+◌, ◌-◌, ◌*◌, ◌≤◌, List, [], ◌∷◌, ◌++◌, length, replicate, get_or, map, flat_map, refl, sym, ap, ◌∙◌, subst, arith}
 use Rattle.std.specs.Prelude.{Option, Some, None, option_map, IfSome, slice_get}
 use Rattle.std.specs.List.{range_with_len, All, AllPairs}
 use Rattle.std.proofs.lemmas.Option.{slice_get-map, slice_get_cases, get_or_from_slice_get}
@@ -7,8 +7,8 @@ use Rattle.std.proofs.lemmas.Bool.{cases_order}
 use Rattle.std.proofs.lemmas.List.{length-append, length-map, length-replicate, map-append, get_or_append_left, get_or-append-add}
 use Rattle.launch_file.specs.declared.places.Region2.{Region2}
 use Rattle.launch_file.specs.Launches.{LaunchOf, IsLaunch}
-use Rattle.launch_file.specs.Layout.{PlacesOf, regions, first_start, next_start, start_after, buffer_lens, scratch_lens, scratch_start, layout_of}
-use Rattle.launch_file.specs.Laws.{ArePlaced, lens_of}
+use Rattle.launch_file.specs.Layout.{PlacesOf, regions, first_start, next_start, start_after, buffer_lens, scratch_start, layout_of}
+use Rattle.launch_file.specs.Laws.{ArePlaced}
 use Rattle.launch_file.specs.Uniforms.{uniforms_of, work_words, arg_word}
 use Rattle.launch_file.proofs.LayoutLaws.{layout_is_good}
 use Rattle.launch_file.proofs.RegionSteps.{start_after_none, start_after_next, regions_none, regions_next}
@@ -21,10 +21,10 @@ use Rattle.vc4c_core.specs.Openings.{gap, with_region, with_regions, empty_scrat
 
 -- ---- how long the memory is
 
-next_behind : (start len : ℕ) → start + len ≤ next_start start len
+pub next_behind : (start len : ℕ) → start + len ≤ next_start start len
 next_behind start len = omega arith
 
-length-with_region : (memory bytes : List ℕ) → length (with_region memory bytes) ≡ next_start (length memory) (length bytes)
+pub length-with_region : (memory bytes : List ℕ) → length (with_region memory bytes) ≡ next_start (length memory) (length bytes)
 unfolding with_region gap
 length-with_region memory bytes =
     let behind = next_behind (length memory) (length bytes) in
@@ -33,7 +33,7 @@ length-with_region memory bytes =
     length-append memory (bytes ++ replicate fill 165) ∙ ap (λ n. length memory + n) (length-append bytes (replicate fill 165) ∙ ap (λ n. length bytes + n) (length-replicate {A = ℕ} fill 165)) in
     whole ∙ (let sum : length memory + (length bytes + fill) ≡ next_start (length memory) (length bytes) = omega (arith, behind) in sum)
 
-length-with_regions : (memory : List ℕ) (contents : List (List ℕ)) → length (with_regions memory contents) ≡ start_after (length memory) (map length contents)
+pub length-with_regions : (memory : List ℕ) (contents : List (List ℕ)) → length (with_regions memory contents) ≡ start_after (length memory) (map length contents)
 unfolding with_regions
 length-with_regions memory [] = sym (start_after_none (length memory))
 length-with_regions memory (bytes ∷ rest) =
@@ -41,7 +41,7 @@ length-with_regions memory (bytes ∷ rest) =
     ∙ ap (λ n. start_after n (map length rest)) (length-with_region memory bytes)
     ∙ sym (start_after_next (length memory) (length bytes) (map length rest))
 
-lengths-replicate : (n : ℕ) (bytes : List ℕ) (size : ℕ) → length bytes ≡ size → map length (replicate n bytes) ≡ replicate n size
+pub lengths-replicate : (n : ℕ) (bytes : List ℕ) (size : ℕ) → length bytes ≡ size → map length (replicate n bytes) ≡ replicate n size
 lengths-replicate zero bytes size e = refl
 lengths-replicate (suc n) bytes size e = ap (λ k. k ∷ map length (replicate n bytes)) e ∙ ap (λ ks. size ∷ ks) (lengths-replicate n bytes size e)
 

@@ -1,10 +1,10 @@
 -- The opening of a module and a launch: the memory with its regions, and the uniforms of each QPU. The layout, the gaps and the order are this
 -- project's own.
-use Rattle.std.specs.Prelude.{ℕ, ◌+◌, ◌-◌, ◌*◌, List, [], ◌∷◌, ◌++◌, length, replicate, map, flat_map}
+use Rattle.std.specs.Prelude.{◌≡◌, ◌⊎◌, ◌<◌, ◌≤◌, ℕ, ◌+◌, ◌-◌, ◌*◌, List, [], ◌∷◌, ◌++◌, length, get_or, replicate, map, flat_map}
 use Rattle.std.specs.List.{range_with_len}
 use Rattle.launch_file.specs.declared.places.Region2.{Region2}
 use Rattle.launch_file.specs.Launches.{LaunchOf}
-use Rattle.launch_file.specs.Layout.{PlacesOf, first_start, next_start, layout_of}
+use Rattle.launch_file.specs.Layout.{PlacesOf, first_start, next_start, regions, start_after, layout_of}
 use Rattle.launch_file.specs.Uniforms.{uniforms_of}
 use Rattle.vc4q_module.specs.ModuleBytes.{ModuleOf}
 use Rattle.vpm_words.specs.declared.state.Region.{Region}
@@ -57,3 +57,16 @@ plan_for code launch buffers = record {
 -- the machine before its first step: zeros in its registers and its VPM
 unfoldable pub opening_for : ModuleOf → LaunchOf → List (List ℕ) → MachineState
 opening_for code launch buffers = opening (plan_for code launch buffers) (contents_of Zero launch.qpus)
+
+-- the byte at this address lies in one of the regions
+abbrev pub Covered : List Region2 → ℕ → Type 0
+Covered [] address = ⊥
+Covered (r ∷ rs) address = ((r.start ≤ address) × (address < r.start + r.len)) ⊎ Covered rs address
+
+-- each byte of the memory that lies in no buffer and in no scratch is 165
+abbrev pub GapsAre165 : Type 0
+GapsAre165 =
+    (buffers : List (List ℕ)) (qpus rows address : ℕ) → address < length (memory_of buffers qpus rows)
+    → ¬ (Covered (regions first_start (map length buffers)) address)
+    → ¬ (Covered (regions (start_after first_start (map length buffers)) (replicate qpus (64 * rows))) address)
+    → get_or (memory_of buffers qpus rows) address 0 ≡ 165

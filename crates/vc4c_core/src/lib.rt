@@ -10,6 +10,7 @@ ghost use Rattle.vc4c_core.specs.ExecClauses.{ExecAnswers};
 
 use crate::command::{Command, command_of};
 use crate::exec::exec;
+pub use crate::laws::law_gaps;
 use crate::places::say;
 pub use crate::playing::{Ready, play};
 pub use crate::status::{Status, code};
@@ -19,6 +20,7 @@ use std::alloc::Global;
 mod buffers;
 mod command;
 mod exec;
+mod laws;
 mod lines;
 mod names;
 mod opening;
