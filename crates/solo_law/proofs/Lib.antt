@@ -1,0 +1,10 @@
+pub mod Lists
+pub mod Elements
+pub mod Changes
+pub mod Alone
+pub mod Invariant
+pub mod Allowed
+pub mod Agreeing
+pub mod Words
+pub mod Steps
+pub mod Theorems
