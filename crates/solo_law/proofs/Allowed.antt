@@ -1,7 +1,6 @@
 -- Rules, from a clean word to the tests of what is shared and back; and that the elements that a word starts are apart.
-use Rattle.std.proofs.Common.{◌≡◌, ◌≢◌, ℕ, ⊎_elim, List, [], ◌∷◌, length, refl, sym, ap, ◌∙◌, subst, Bool, true, false, eq-eqb, ne_eqb}
+use Rattle.std.proofs.Common.{◌≡◌, ◌≢◌, ℕ, ⊎_elim, List, [], length, refl, ap, ◌∙◌, subst, Bool, true, false, eq-eqb, ne_eqb}
 use Rattle.std.specs.Prelude.{◌-◌, not, ◌||◌, if◌then◌else◌, ⊤}
-use Rattle.std.specs.List.{list_any}
 use Rattle.std.specs.declared.option.Option.{Option}
 use Rattle.std.specs.declared.option.Option.TheVariants.{Some, None}
 use Rattle.std.proofs.lemmas.Bool.{cases_eq}
@@ -11,15 +10,14 @@ use Rattle.qpu_rules.specs.Uses.{access_of}
 use Rattle.qpu_rules.specs.Restrictions.{least_early}
 use Rattle.vpm_words.specs.Piece.{Piece}
 use Rattle.vpm_words.specs.Rules.{is_me, is_other, first_of}
-use Rattle.vpm_words.specs.Access.{Site, Demand, Private, Setup, Take, Give, ReadRow, WriteRow, StartLoad, StartStore, AwaitLoad, AwaitStore, demand, breaks, if_mine, owner_seen, is_busy, is_row_busy, started}
+use Rattle.vpm_words.specs.Access.{Site, Demand, Private, Setup, Take, Give, ReadRow, WriteRow, StartLoad, StartStore, AwaitLoad, AwaitStore, demand, if_mine, owner_seen, is_busy, is_row_busy, started}
 use Rattle.vpm_words.specs.declared.state.Access.{Access}
 use Rattle.vpm_words.specs.declared.state.Access.TheVariants.{Uniform, ReadVpm, WriteVpm, ReadSet, WriteSet, LoadAddr, StoreAddr, WaitLoad, WaitStore, Lock, Unlock}
 use Rattle.vpm_words.specs.declared.state.Element.{Element}
-use Rattle.vpm_words.specs.declared.state.Owner.TheVariants.{Nobody, Me, Other}
+use Rattle.vpm_words.specs.declared.state.Owner.TheVariants.{Me, Other}
 use Rattle.vpm_words.specs.declared.state.Ports.{Ports}
 use Rattle.vpm_words.specs.declared.state.Rule.{Rule}
 use Rattle.vpm_words.specs.declared.state.Rule.TheVariants.{H8, H9, H10, H11}
-use Rattle.vpm_words.specs.declared.state.Shared.{Shared}
 use Rattle.qpu_machine.specs.declared.state.Qpu.{Qpu}
 use Rattle.qpu_machine.specs.IssueStep.{fetched, recent}
 use Rattle.qpu_machine.specs.SoloRun.{Want, Rests, Breaks, Wants, want, wanted, or_breaks, words_out, Sharing, Due, NoneDue, LoadDue, StoreDue, Solo, IsFine}

@@ -1,5 +1,5 @@
 -- The run of one QPU alone, with different contents.
-use Rattle.std.proofs.Common.{◌≡◌, ◌≢◌, ℕ, ◌+◌, ◌^◌, ◌<◌, ◌≤◌, List, [], ◌∷◌, ◌++◌, length, get_or, refl, sym, ap, ◌∙◌, subst, inl, inr, arith, length-append, append_assoc, false}
+use Rattle.std.proofs.Common.{◌≡◌, ℕ, ◌+◌, ◌^◌, ◌<◌, ◌≤◌, List, [], ◌∷◌, ◌++◌, length, get_or, refl, sym, ap, ◌∙◌, subst, inl, inr, arith, length-append, append_assoc, false}
 use Rattle.std.specs.Prelude.{IfSome, ⊤}
 use Rattle.std.specs.declared.option.Option.{Option}
 use Rattle.std.specs.declared.option.Option.TheVariants.{Some, None}
@@ -8,7 +8,7 @@ use Rattle.vpm_words.specs.declared.state.Element.{Element}
 use Rattle.vpm_words.specs.declared.state.Rule.{Rule}
 use Rattle.qpu_machine.specs.declared.state.Qpu.{Qpu}
 use Rattle.qpu_machine.specs.MachineState.{MachineState}
-use Rattle.qpu_machine.specs.SoloRun.{Want, Rests, Breaks, Wants, want, Sharing, Change, Deed, Ended, Works, Loads, Stores, deed, elements_started, Note, Made, with_change, made_after, change_after, Solo, does, alone, solo, AreGiven, broken_by, IsOneWord, first_address, KeepsApart, IsClean, AnyCovers, StoresByte, Changes}
+use Rattle.qpu_machine.specs.SoloRun.{Want, Rests, Breaks, Wants, want, Sharing, Change, Deed, Ended, Works, Loads, Stores, deed, elements_started, Note, Made, with_change, made_after, change_after, Solo, does, alone, solo, AreGiven, broken_by, IsOneWord, KeepsApart, IsClean, AnyCovers, StoresByte, Changes}
 use Rattle.solo_law.specs.Laws.{cost, GoesOn}
 use Rattle.solo_law.proofs.Elements.{store_all_length}
 use Rattle.solo_law.proofs.Changes.{overlaid_length, AreSmall}

@@ -1,8 +1,7 @@
 -- Changes that commute, and shared words that are taken anew.
-use Rattle.std.proofs.Common.{◌≡◌, ◌≢◌, ℕ, zero, suc, ◌+◌, ◌%◌, ◌^◌, ◌<◌, List, [], ◌∷◌, length, get_or, ⊎_elim, refl, sym, ap, ◌∙◌, subst, arith, Bool, true, false, eq-eqb, ne_eqb}
+use Rattle.std.proofs.Common.{◌≡◌, ◌≢◌, ℕ, zero, suc, ◌+◌, ◌^◌, ◌<◌, List, [], ◌∷◌, length, get_or, ⊎_elim, refl, sym, ap, ◌∙◌, subst, arith, Bool, true, false, eq-eqb, ne_eqb}
 use Rattle.std.specs.Prelude.{if◌then◌else◌, ⊤}
 use Rattle.std.proofs.lemmas.Bool.{cases_eq}
-use Rattle.q_lane.specs.Numbers.{applied}
 use Rattle.q_lane.proofs.WordLaws.{applied-below}
 use Rattle.vpm_words.specs.Access.{overlaid}
 use Rattle.qpu_machine.specs.SoloRun.{Change, changed, Made}

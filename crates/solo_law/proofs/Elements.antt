@@ -1,11 +1,11 @@
 -- Elements of a transfer: each order of moving them gives the same.
-use Rattle.std.proofs.Common.{◌≡◌, ◌≢◌, ℕ, zero, suc, ◌+◌, ◌*◌, ◌/◌, ◌%◌, ◌^◌, ◌<◌, ◌≤◌, ◌⊎◌, inl, inr, ⊎_elim, List, [], ◌∷◌, map, length, get_or, set, refl, sym, ap, ◌∙◌, subst, arith, length-set, Bool, true, false}
+use Rattle.std.proofs.Common.{◌≡◌, ◌≢◌, ℕ, zero, suc, ◌+◌, ◌*◌, ◌<◌, ◌≤◌, ◌⊎◌, inl, inr, ⊎_elim, List, [], ◌∷◌, map, length, get_or, set, refl, sym, ap, ◌∙◌, subst, arith, length-set, Bool, true, false}
 use Rattle.std.proofs.Math.Nat.{mul-le-mul_left}
-use Rattle.std.specs.Prelude.{slice_set, slice_get, ◌==◌, nat_le, if◌then◌else◌, Option, Some, None, ⊤}
+use Rattle.std.specs.Prelude.{slice_get, if◌then◌else◌, Some, ⊤}
 use Rattle.std.specs.List.{remove, range_with_len}
 use Rattle.vpm_words.specs.Piece.{Piece}
 use Rattle.vpm_words.specs.Elements.{size_of, element_at, elements_of}
-use Rattle.vpm_words.specs.Moves.{part_of, with_part, number_at, bytes_of, put_bytes, cell, with_cell, load_element, bytes_out, store_element, load_all, store_all}
+use Rattle.vpm_words.specs.Moves.{part_of, with_part, number_at, put_bytes, cell, with_cell, load_element, bytes_out, store_element, load_all, store_all}
 use Rattle.vpm_words.specs.declared.state.Element.{Element}
 use Rattle.vpm_words.proofs.MoveLaws.{length-put_bytes, length-bytes_of}
 use Rattle.qpu_machine.specs.SoloRun.{CoversByte, AnyCovers}

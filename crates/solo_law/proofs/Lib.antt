@@ -8,3 +8,5 @@ pub mod Agreeing
 pub mod Words
 pub mod Steps
 pub mod Theorems
+pub mod Groups
+pub mod Opening

@@ -1,13 +1,12 @@
 -- Each step keeps what holds of a run.
-use Rattle.std.proofs.Common.{◌≡◌, ◌≢◌, ℕ, zero, suc, ◌+◌, ◌%◌, ◌<◌, ◌≤◌, ⊎_elim, List, [], ◌∷◌, length, get_or, refl, sym, ap, ◌∙◌, subst, arith, Bool, true, false}
+use Rattle.std.proofs.Common.{◌≡◌, ℕ, zero, suc, ◌+◌, ◌%◌, ◌<◌, ⊎_elim, List, [], ◌∷◌, length, get_or, refl, sym, ap, ◌∙◌, subst, arith, Bool, true, false}
 use Rattle.std.specs.Prelude.{slice_get, ◌==◌, ◌&&◌, if◌then◌else◌}
-use Rattle.std.specs.List.{remove}
 use Rattle.std.specs.declared.option.Option.{Option}
 use Rattle.std.specs.declared.option.Option.TheVariants.{Some, None}
 use Rattle.std.proofs.lemmas.Bool.{cases_lt}
 use Rattle.std.proofs.lemmas.Option.{slice_get_past, slice_get-get_or}
-use Rattle.vpm_words.specs.Access.{Site, Given, is_busy}
-use Rattle.vpm_words.specs.Moves.{number_at, load_element, store_element, store_all}
+use Rattle.vpm_words.specs.Access.{is_busy}
+use Rattle.vpm_words.specs.Moves.{number_at, load_element, store_all}
 use Rattle.vpm_words.specs.declared.state.Element.{Element}
 use Rattle.vpm_words.specs.declared.state.Shared.{Shared}
 use Rattle.qpu_machine.specs.declared.state.Effect.{Effect}
@@ -15,10 +14,9 @@ use Rattle.qpu_machine.specs.declared.state.Effect.TheVariants as effect
 use Rattle.qpu_machine.specs.declared.state.Step.{Step}
 use Rattle.qpu_machine.specs.declared.state.Step.TheVariants.{Issue, Load, Store}
 use Rattle.qpu_machine.specs.declared.state.Qpu.{Qpu}
-use Rattle.qpu_machine.specs.declared.state.Counts.{Counts}
-use Rattle.qpu_machine.specs.Planned.{Fixed, site_of}
+use Rattle.qpu_machine.specs.Planned.{site_of}
 use Rattle.qpu_machine.specs.IssueStep.{Local, local}
-use Rattle.qpu_machine.specs.MoveStep.{Moved, unmoved, loaded, load_move, stored, store_move}
+use Rattle.qpu_machine.specs.MoveStep.{unmoved, loaded, load_move, stored, store_move}
 use Rattle.qpu_machine.specs.MachineState.{MachineState}
 use Rattle.qpu_machine.specs.MachineRun.{Next, turn_at, turn, turned, shifted, step_of, happens, machine_run, is_effective, effective_steps, fault_after}
 use Rattle.qpu_machine.specs.Reachable.{IsInRange}
@@ -35,7 +33,7 @@ use Rattle.solo_law.proofs.Alone.{solo_size}
 use Rattle.solo_law.proofs.Invariant.{Agrees, Inv}
 use Rattle.solo_law.proofs.Allowed.{Allowed, allowed}
 use Rattle.solo_law.proofs.Agreeing.{load_agreed, store_agreed, stores_none, stores_apart_of, writer}
-use Rattle.solo_law.proofs.Words.{number_is, step_count, notes_with, IsKept, word_kept}
+use Rattle.solo_law.proofs.Words.{number_is, step_count, IsKept, word_kept}
 
 -- a state of the machine's run, after n effective steps and the words c k of each QPU k
 pub record Now (x : Shares) (w : MachineState) (n : ℕ) (c : ℕ → List Note) (s : MachineState) : Type 0 where
@@ -125,7 +123,7 @@ module _ (x : Shares) (w : MachineState) (fits : Premises x w) (n : ℕ) (c : �
       record {
         unbroken = ap (λ o. fault_after (left k).effect o) h.unbroken ∙ kept.sound;
         inv = renamed x w _ _ _ _ _ kept.inv _ _ refl
-              (λ t. ap (λ l. if (k == t) && is_effective (left k).effect then l else c t) (sym (noted_same now w t (slice_get now.qpus t) (c t) h.fixed)));
+            (λ t. ap (λ l. if (k == t) && is_effective (left k).effect then l else c t) (sym (noted_same now w t (slice_get now.qpus t) (c t) h.fixed)));
       }
 
   nobody : (k : ℕ) → Fine (Issue k) (turned now (turn_at now.fixed now.qpus now.shared now.counts k None))
@@ -160,18 +158,18 @@ module _ (x : Shares) (w : MachineState) (fits : Premises x w) (n : ℕ) (c : �
       record {
         unbroken = h.unbroken;
         inv = record {
-              at = i.at;
-              many = i.many;
-              reach = i.reach;
-              here = i.here;
-              notes = i.notes;
-              size = i.size;
-              agrees = load_agreed x w i.at all.owner all.vpm now.memory all.loads all.stores j e has i.agrees;
-              rest = i.rest;
-              totals = λ a al sx.
-                  ap (λ l. number_at 4 l a) (ap (λ l. store_all l (load_element e now.memory all.vpm) now.memory) z ∙ sym (ap (λ l. store_all l all.vpm now.memory) z)) ∙ i.totals a al sx;
-              count = let b = i.count in let l = remove_length all.loads j e has in omega arith;
-            };
+          at = i.at;
+          many = i.many;
+          reach = i.reach;
+          here = i.here;
+          notes = i.notes;
+          size = i.size;
+          agrees = load_agreed x w i.at all.owner all.vpm now.memory all.loads all.stores j e has i.agrees;
+          rest = i.rest;
+          totals = λ a al sx.
+              ap (λ l. number_at 4 l a) (ap (λ l. store_all l (load_element e now.memory all.vpm) now.memory) z ∙ sym (ap (λ l. store_all l all.vpm now.memory) z)) ∙ i.totals a al sx;
+          count = let b = i.count in let l = remove_length all.loads j e has in omega arith;
+        };
       }
 
   store_moved : (j : ℕ) (e : Element) → slice_get now.shared.stores j ≡ Some e → (m : ℕ) → Fine (Store m) (shifted now (stored now.shared now.counts now.memory j (Some e)))
@@ -181,22 +179,22 @@ module _ (x : Shares) (w : MachineState) (fits : Premises x w) (n : ℕ) (c : �
       record {
         unbroken = h.unbroken;
         inv = record {
-              at = i.at;
-              many = i.many;
-              reach = i.reach;
-              here = i.here;
-              notes = i.notes;
-              size = store_length e all.vpm now.memory ∙ i.size;
-              agrees = store_agreed x w fits i.at all.owner all.vpm now.memory all.loads all.stores j e has i.agrees;
-              rest = λ a no.
-                  store_elsewhere e all.vpm now.memory a
-                  (λ cov. let y = writer x w i.at all.owner all.vpm now.memory all.loads all.stores j e has i.agrees a cov in no y.0 y.1 y.2)
-                  ∙ i.rest a no;
-              totals = λ a al sx.
-                  ap (λ l. number_at 4 l a) (store_first all.stores j e all.vpm now.memory has (stores_apart_of x w i.at all.owner all.vpm now.memory all.loads all.stores i.agrees))
-                  ∙ i.totals a al sx;
-              count = let b = i.count in let l = remove_length all.stores j e has in omega arith;
-            };
+          at = i.at;
+          many = i.many;
+          reach = i.reach;
+          here = i.here;
+          notes = i.notes;
+          size = store_length e all.vpm now.memory ∙ i.size;
+          agrees = store_agreed x w fits i.at all.owner all.vpm now.memory all.loads all.stores j e has i.agrees;
+          rest = λ a no.
+              store_elsewhere e all.vpm now.memory a
+              (λ cov. let y = writer x w i.at all.owner all.vpm now.memory all.loads all.stores j e has i.agrees a cov in no y.0 y.1 y.2)
+              ∙ i.rest a no;
+          totals = λ a al sx.
+              ap (λ l. number_at 4 l a) (store_first all.stores j e all.vpm now.memory has (stores_apart_of x w i.at all.owner all.vpm now.memory all.loads all.stores i.agrees))
+              ∙ i.totals a al sx;
+          count = let b = i.count in let l = remove_length all.stores j e has in omega arith;
+        };
       }
 
   unmoved_fine : (step : Step) → ((e : Effect) (t : ℕ) → noted_by step e t ≡ c t) → Fine step (shifted now (unmoved now.shared now.counts now.memory))
@@ -281,20 +279,20 @@ start_now x w fits =
       unbroken = fits.start.broken;
       range = fits.start.range;
       inv = record {
-            at = λ k. alone w (qpu_at w k);
-            many = refl;
-            reach = λ k lt. record { contents = []; valid = tt; is = refl };
-            here = λ k lt. slice_get-get_or w.qpus k (opening_qpu zero_regs) lt;
-            notes = λ k lt. refl;
-            size = refl;
-            agrees = subst (λ o. Agrees x w (λ k. alone w (qpu_at w k)) o all.vpm w.memory all.loads all.stores) (sym fits.start.owner)
-                  (fits.start.loads, fits.start.stores, λ j lt. record { free = fits.start.owner; due = refl; agree = λ a t f. refl });
-            rest = λ a no. refl;
-            totals = λ a al sx.
-                subst (λ l. number_at 4 (store_all l all.vpm w.memory) a ≡ changed_by_all a (λ k. []) (length w.qpus) (number_at 4 w.memory a)) (sym fits.start.stores)
-                (sym (total_nothing a (length w.qpus) (number_at 4 w.memory a)));
-            count = let z = sum_nothing w (length w.qpus) in let l : length all.loads ≡ 0 = ap length fits.start.loads in let s : length all.stores ≡ 0 = ap length fits.start.stores in omega arith;
-          };
+        at = λ k. alone w (qpu_at w k);
+        many = refl;
+        reach = λ k lt. record { contents = []; valid = tt; is = refl };
+        here = λ k lt. slice_get-get_or w.qpus k (opening_qpu zero_regs) lt;
+        notes = λ k lt. refl;
+        size = refl;
+        agrees = subst (λ o. Agrees x w (λ k. alone w (qpu_at w k)) o all.vpm w.memory all.loads all.stores) (sym fits.start.owner)
+            (fits.start.loads, fits.start.stores, λ j lt. record { free = fits.start.owner; due = refl; agree = λ a t f. refl });
+        rest = λ a no. refl;
+        totals = λ a al sx.
+            subst (λ l. number_at 4 (store_all l all.vpm w.memory) a ≡ changed_by_all a (λ k. []) (length w.qpus) (number_at 4 w.memory a)) (sym fits.start.stores)
+            (sym (total_nothing a (length w.qpus) (number_at 4 w.memory a)));
+        count = let z = sum_nothing w (length w.qpus) in let l : length all.loads ≡ 0 = ap length fits.start.loads in let s : length all.stores ≡ 0 = ap length fits.start.stores in omega arith;
+      };
     }
 
 pub run_now : (x : Shares) (w : MachineState) → Premises x w → (steps : List Step) → Now x w (effective_steps steps w) (λ t. run_notes t steps w []) (machine_run steps w)

@@ -1,19 +1,18 @@
 -- The laws.
-use Rattle.std.proofs.Common.{◌≡◌, ◌≢◌, ℕ, zero, suc, ◌+◌, ◌<◌, ◌≤◌, ◌%◌, ◌⊎◌, inl, inr, ⊎_elim, List, [], ◌∷◌, ◌++◌, length, get_or, refl, sym, ap, ◌∙◌, subst, arith, Bool, true, false}
-use Rattle.std.specs.Prelude.{slice_get, not, ◌&&◌, if◌then◌else◌}
+use Rattle.std.proofs.Common.{◌≡◌, ◌≢◌, ℕ, zero, suc, ◌<◌, ◌≤◌, ◌%◌, ◌⊎◌, inl, inr, ⊎_elim, List, [], ◌∷◌, ◌++◌, length, get_or, refl, sym, ap, ◌∙◌, subst, arith, Bool, true, false}
+use Rattle.std.specs.Prelude.{slice_get, not, ◌&&◌}
 use Rattle.std.specs.List.{list_all}
 use Rattle.std.specs.declared.option.Option.{Option}
 use Rattle.std.specs.declared.option.Option.TheVariants.{Some, None}
 use Rattle.std.proofs.lemmas.Bool.{cases_lt}
 use Rattle.std.proofs.lemmas.Option.{slice_get_within}
-use Rattle.vpm_words.specs.Access.{Given, Demand, Private, Setup, Take, Give, ReadRow, WriteRow, StartLoad, StartStore, AwaitLoad, AwaitStore, breaks, stalls, owner_seen, is_busy}
+use Rattle.vpm_words.specs.Access.{Given, Private, Setup, Take, Give, ReadRow, WriteRow, StartLoad, StartStore, AwaitLoad, AwaitStore, owner_seen, is_busy}
 use Rattle.vpm_words.specs.Rules.{is_other}
 use Rattle.vpm_words.specs.Moves.{number_at, store_all}
 use Rattle.vpm_words.specs.declared.state.Element.{Element}
 use Rattle.vpm_words.specs.declared.state.Rule.{Rule}
 use Rattle.vpm_words.specs.declared.state.Rule.TheVariants.{H8, H9, H10, H11}
 use Rattle.vpm_words.specs.declared.state.Shared.{Shared}
-use Rattle.qpu_machine.specs.declared.state.Effect.{Effect}
 use Rattle.qpu_machine.specs.declared.state.Effect.TheVariants as effect
 use Rattle.qpu_machine.specs.declared.state.Stop.TheVariants as stop
 use Rattle.qpu_machine.specs.declared.state.Step.{Step}
@@ -22,20 +21,19 @@ use Rattle.qpu_machine.specs.declared.state.Qpu.{Qpu}
 use Rattle.qpu_machine.specs.declared.state.Counts.{Counts}
 use Rattle.qpu_machine.specs.Planned.{site_of}
 use Rattle.qpu_machine.specs.IssueStep.{Local, local, judged}
-use Rattle.qpu_machine.specs.MoveStep.{loaded, load_move, stored, store_move}
 use Rattle.qpu_machine.specs.MachineState.{MachineState, stop_of, stop_at, all_ended, are_idle}
-use Rattle.qpu_machine.specs.MachineRun.{turn_at, turned, shifted, step_of, happens, machine_run, is_effective, effective_steps}
-use Rattle.qpu_machine.specs.SoloRun.{Want, Rests, Breaks, Wants, want, done_alone, row_wanted, performed, Due, Note, Solo, run_notes}
+use Rattle.qpu_machine.specs.MachineRun.{step_of, happens, machine_run, is_effective}
+use Rattle.qpu_machine.specs.SoloRun.{Want, Rests, Breaks, Wants, done_alone, row_wanted, performed, Due, Note, Solo}
 use Rattle.qpu_machine.proofs.Split.{step_splits}
 use Rattle.qpu_machine.proofs.SplitUses.{ended_rests, rests_ended}
-use Rattle.qpu_machine.proofs.Steps.{happens_goes, issue_is, chosen, load_is, store_is}
+use Rattle.qpu_machine.proofs.Steps.{happens_goes, issue_is, load_is, store_is}
 use Rattle.solo_law.specs.Sharing.{Shares, of_qpu, changed_by_all}
-use Rattle.solo_law.specs.Premises.{qpu_at, solo_of, next_of, AreContentsFor, SetsOf, TouchesOf, Premises}
-use Rattle.solo_law.specs.Laws.{Ends, Follows, Projects, EveryRunProjects, sum_to, cost, EveryRunIsBounded, NoRunIsStuck}
+use Rattle.solo_law.specs.Premises.{qpu_at, solo_of, next_of, TouchesOf, Premises}
+use Rattle.solo_law.specs.Laws.{Ends, EveryRunProjects, sum_to, cost, EveryRunIsBounded, NoRunIsStuck}
 use Rattle.solo_law.proofs.Changes.{all_same}
 use Rattle.solo_law.proofs.Alone.{cost_most, notes_most, same_end, same_made}
 use Rattle.solo_law.proofs.Invariant.{Out, Agrees, Inv}
-use Rattle.solo_law.proofs.Allowed.{AllowedBy, Allowed, mine_none, first_none, take_none, rows_free, none_busy}
+use Rattle.solo_law.proofs.Allowed.{Allowed, mine_none, first_none, take_none, rows_free, none_busy}
 use Rattle.solo_law.proofs.Words.{number_is}
 use Rattle.solo_law.proofs.Steps.{Now, allowed_at, run_now}
 
@@ -249,11 +247,11 @@ module _ (x : Shares) (w : MachineState) (fits : Premises x w) (n : ℕ) (c : �
   over el es all =
       record {
         ended = all_end now.qpus (λ k q e.
-              let lt : k < length w.qpus = let y = slice_get_within now.qpus k q e in let m = j.many in omega arith in
-              let same : Some q ≡ Some (j.at k).qpu = sym e ∙ j.here k lt in
-              let r = rests_ended w.fixed.code (site_of w.fixed k) (j.at k).qpu (all k lt) in
-              let p : (j.at k).qpu ≡ q = cc in
-              subst (λ y. y.flow.ended ≡ true) p r);
+            let lt : k < length w.qpus = let y = slice_get_within now.qpus k q e in let m = j.many in omega arith in
+            let same : Some q ≡ Some (j.at k).qpu = sym e ∙ j.here k lt in
+            let r = rests_ended w.fixed.code (site_of w.fixed k) (j.at k).qpu (all k lt) in
+            let p : (j.at k).qpu ≡ q = cc in
+            subst (λ y. y.flow.ended ≡ true) p r);
         loads = el;
         stores = es;
       }

@@ -1,11 +1,11 @@
 -- Each word of one QPU keeps what holds of a run.
-use Rattle.std.proofs.Common.{◌≡◌, ◌≢◌, ℕ, zero, suc, ◌+◌, ◌%◌, ◌/◌, ◌^◌, ◌<◌, ◌≤◌, ◌⊎◌, inl, inr, ⊎_elim, List, [], ◌∷◌, length, get_or, refl, sym, ap, ◌∙◌, subst, arith, length-set, Bool, true, false, eq-eqb, ne_eqb}
-use Rattle.std.specs.Prelude.{slice_get, slice_set, ◌==◌, ◌&&◌, ◌||◌, if◌then◌else◌, IfSome}
+use Rattle.std.proofs.Common.{◌≡◌, ◌≢◌, ℕ, ◌+◌, ◌%◌, ◌/◌, ◌^◌, ◌<◌, ◌≤◌, ◌⊎◌, inl, inr, ⊎_elim, List, [], ◌∷◌, length, get_or, refl, sym, ap, ◌∙◌, subst, arith, length-set, Bool, true, false, eq-eqb, ne_eqb}
+use Rattle.std.specs.Prelude.{slice_get, slice_set, ◌==◌, ◌&&◌, if◌then◌else◌}
 use Rattle.std.specs.declared.option.Option.{Option}
 use Rattle.std.specs.declared.option.Option.TheVariants.{Some, None}
 use Rattle.std.proofs.lemmas.Bool.{cases_eq}
 use Rattle.vpm_words.specs.Rules.{is_other}
-use Rattle.vpm_words.specs.Access.{Site, Given, Demand, Private, Setup, Take, Give, ReadRow, WriteRow, StartLoad, StartStore, AwaitLoad, AwaitStore, breaks, stalls, share, owner_seen, is_busy, put_row, overlaid}
+use Rattle.vpm_words.specs.Access.{Site, Given, Demand, Private, Setup, Take, Give, ReadRow, WriteRow, StartLoad, StartStore, AwaitLoad, AwaitStore, share, owner_seen, is_busy, put_row, overlaid}
 use Rattle.vpm_words.specs.Moves.{number_at, load_all, store_all}
 use Rattle.vpm_words.specs.declared.state.Element.{Element}
 use Rattle.vpm_words.specs.declared.state.Rule.{Rule}
@@ -19,16 +19,15 @@ use Rattle.qpu_machine.specs.Planned.{Fixed, site_of}
 use Rattle.qpu_machine.specs.IssueStep.{Local, idle, judged}
 use Rattle.qpu_machine.specs.MachineState.{MachineState}
 use Rattle.qpu_machine.specs.MachineRun.{is_effective, fault_after}
-use Rattle.qpu_machine.specs.Reachable.{AreBytes, IsInRange}
-use Rattle.qpu_machine.specs.SoloRun.{Want, Rests, Breaks, Wants, want, done_alone, row_at, row_wanted, counted, performed, Sharing, Change, changed, Due, NoneDue, LoadDue, StoreDue, deed, Note, Made, with_change, Solo, does, solo, IsGiven, AnyCovers, LoadsByte, StoresByte, IsOneWord, first_address, KeepsApart, Writes, noted}
-use Rattle.solo_law.specs.Sharing.{Shares, of_qpu, changed_by_all, AreOperands}
-use Rattle.solo_law.specs.Premises.{qpu_at, solo_of, next_of, IsCleanOf, ReadsOf, WritesOf, ChangesOf, SetsOf, TouchesOf, Premises}
-use Rattle.solo_law.specs.Laws.{cost}
+use Rattle.qpu_machine.specs.Reachable.{AreBytes}
+use Rattle.qpu_machine.specs.SoloRun.{Want, Rests, Breaks, Wants, want, done_alone, row_at, row_wanted, performed, Change, changed, NoneDue, deed, Note, Made, with_change, Solo, does, solo, IsGiven, AnyCovers, LoadsByte, StoresByte, KeepsApart, noted}
+use Rattle.solo_law.specs.Sharing.{Shares, of_qpu, changed_by_all}
+use Rattle.solo_law.specs.Premises.{qpu_at, solo_of, next_of, WritesOf, ChangesOf, SetsOf, TouchesOf, Premises}
 use Rattle.solo_law.proofs.Lists.{get_set, get_set_other}
 use Rattle.solo_law.proofs.Elements.{AreApartAll, number_agrees, store_all_elsewhere, load_all_agrees, store_all_keeps}
 use Rattle.solo_law.proofs.Changes.{overlaid_in, overlaid_out, AreSmall, CommuteAll, all_same, all_skip, all_more}
-use Rattle.solo_law.proofs.Alone.{solo_size, AreKnown, made_known, made_small}
-use Rattle.solo_law.proofs.Invariant.{IsReached, Out, Flight, CountsFor, Held, Agrees, Inv, upd, upd_same, upd_other, each_upd, sum_upd}
+use Rattle.solo_law.proofs.Alone.{AreKnown, made_known, made_small}
+use Rattle.solo_law.proofs.Invariant.{IsReached, Out, CountsFor, Held, Agrees, Inv, upd, upd_same, upd_other, each_upd, sum_upd}
 use Rattle.solo_law.proofs.Allowed.{AllowedBy, Allowed, mine_none, first_none, take_none, take_waits, rows_free, none_busy, StartsApart, want_apart}
 use Rattle.solo_law.proofs.Agreeing.{true_or, quiet, stores_idle, loads_idle, held_vpm, held_mem, held_quiet, owner_of, same_upd, agrees_still, others, agrees_held}
 
@@ -94,21 +93,21 @@ module _ (x : Shares) (w : MachineState) (fits : Premises x w) (n : ℕ) (c : �
   nothing cs e he hf =
       record {
         inv = record {
-              at = i.at;
-              many = length-set qpus k s0.qpu ∙ i.many;
-              reach = i.reach;
-              here = λ j ltj.
-                  ⊎_elim
-                  (λ z. subst (λ y. slice_get (slice_set qpus k s0.qpu) y ≡ Some (i.at y).qpu) (sym z) (get_set qpus k s0.qpu (let m = i.many in omega arith)))
-                  (λ ne. get_set_other qpus k j s0.qpu ne ∙ i.here j ltj)
-                  (cases_eq j k);
-              notes = λ j ltj. i.notes j ltj ∙ unnoted k j e (noted w j (slice_get qpus j) (c j)) (c j) he;
-              size = i.size;
-              agrees = i.agrees;
-              rest = i.rest;
-              totals = i.totals;
-              count = let b = i.count in let z : step_count e ≡ 0 = ap (λ y. if y then 1 else 0) he in omega arith;
-            };
+          at = i.at;
+          many = length-set qpus k s0.qpu ∙ i.many;
+          reach = i.reach;
+          here = λ j ltj.
+              ⊎_elim
+              (λ z. subst (λ y. slice_get (slice_set qpus k s0.qpu) y ≡ Some (i.at y).qpu) (sym z) (get_set qpus k s0.qpu (let m = i.many in omega arith)))
+              (λ ne. get_set_other qpus k j s0.qpu ne ∙ i.here j ltj)
+              (cases_eq j k);
+          notes = λ j ltj. i.notes j ltj ∙ unnoted k j e (noted w j (slice_get qpus j) (c j)) (c j) he;
+          size = i.size;
+          agrees = i.agrees;
+          rest = i.rest;
+          totals = i.totals;
+          count = let b = i.count in let z : step_count e ≡ 0 = ap (λ y. if y then 1 else 0) he in omega arith;
+        };
         sound = hf;
       }
 
@@ -150,29 +149,29 @@ module _ (x : Shares) (w : MachineState) (fits : Premises x w) (n : ℕ) (c : �
       let t : Solo = next d in
       record {
         inv = record {
-              at = upd i.at k t;
-              many = length-set qpus k q ∙ i.many;
-              reach = each_upd (λ j y. IsReached x w j y) i.at k t (length w.qpus) i.reach (reached d e);
-              here = λ j ltj.
-                  ⊎_elim
-                  (λ z. subst (λ y. slice_get (slice_set qpus k q) y ≡ Some (upd i.at k t y).qpu) (sym z)
-                  (get_set qpus k q (let m = i.many in omega arith) ∙ ap Some eq ∙ sym (ap (λ y. Some y.qpu) (upd_same i.at k t))))
-                  (λ ne. get_set_other qpus k j q ne ∙ i.here j ltj ∙ sym (ap (λ y. Some y.qpu) (upd_other i.at k t j ne)))
-                  (cases_eq j k);
-              notes = λ j ltj.
-                  ⊎_elim
-                  (λ z. subst (λ y. (upd i.at k t y).notes ≡ notes_with w c qpus k effect.Did y) (sym z)
-                  (ap (λ y. y.notes) (upd_same i.at k t) ∙ noted_now d e
-                  ∙ sym (ap (λ b. if b && true then noted w k (slice_get qpus k) (c k) else c k) (eq-eqb k k refl))))
-                  (λ ne. ap (λ y. y.notes) (upd_other i.at k t j ne) ∙ i.notes j ltj
-                  ∙ sym (ap (λ b. if b && true then noted w j (slice_get qpus j) (c j) else c j) (ne_eqb k j (λ z. ne (sym z)))))
-                  (cases_eq j k);
-              size = i.size;
-              agrees = ag;
-              rest = i.rest;
-              totals = tot;
-              count = let a = sum_upd i.at k t (length w.qpus) lt in let b = i.count in omega arith;
-            };
+          at = upd i.at k t;
+          many = length-set qpus k q ∙ i.many;
+          reach = each_upd (λ j y. IsReached x w j y) i.at k t (length w.qpus) i.reach (reached d e);
+          here = λ j ltj.
+              ⊎_elim
+              (λ z. subst (λ y. slice_get (slice_set qpus k q) y ≡ Some (upd i.at k t y).qpu) (sym z)
+              (get_set qpus k q (let m = i.many in omega arith) ∙ ap Some eq ∙ sym (ap (λ y. Some y.qpu) (upd_same i.at k t))))
+              (λ ne. get_set_other qpus k j q ne ∙ i.here j ltj ∙ sym (ap (λ y. Some y.qpu) (upd_other i.at k t j ne)))
+              (cases_eq j k);
+          notes = λ j ltj.
+              ⊎_elim
+              (λ z. subst (λ y. (upd i.at k t y).notes ≡ notes_with w c qpus k effect.Did y) (sym z)
+              (ap (λ y. y.notes) (upd_same i.at k t) ∙ noted_now d e
+              ∙ sym (ap (λ b. if b && true then noted w k (slice_get qpus k) (c k) else c k) (eq-eqb k k refl))))
+              (λ ne. ap (λ y. y.notes) (upd_other i.at k t j ne) ∙ i.notes j ltj
+              ∙ sym (ap (λ b. if b && true then noted w j (slice_get qpus j) (c j) else c j) (ne_eqb k j (λ z. ne (sym z)))))
+              (cases_eq j k);
+          size = i.size;
+          agrees = ag;
+          rest = i.rest;
+          totals = tot;
+          count = let a = sum_upd i.at k t (length w.qpus) lt in let b = i.count in omega arith;
+        };
         sound = refl;
       }
 

@@ -1,6 +1,6 @@
 -- What the laws ask of an opening: the run of each QPU alone is clean, and what one of them writes or changes is nothing that another
 -- needs. It is this project's own.
-use Rattle.std.specs.Prelude.{◌≡◌, ◌≢◌, ℕ, ◌+◌, ◌/◌, ◌<◌, List, [], length, true, get_or}
+use Rattle.std.specs.Prelude.{◌≡◌, ◌≢◌, ℕ, ◌/◌, ◌<◌, List, [], length, true, get_or}
 use Rattle.std.specs.declared.option.Option.TheVariants.{None}
 use Rattle.vpm_words.specs.Access.{Given}
 use Rattle.qpu_machine.specs.declared.state.Qpu.{Qpu}
