@@ -96,15 +96,21 @@ module _ (x : Shares) (w : MachineState) (fits : Premises x w) (n : ℕ) (c : �
   abbrev left : ℕ → Local
   left k = local now.fixed.code (site_of now.fixed k) (i.at k).qpu now.shared now.counts
 
-  left_kept : (k : ℕ) → k < length w.qpus → IsKept x w n c now.qpus now.memory k (left k)
-  left_kept k lt =
+  -- what an issue leaves is what its word wants, performed
+  pub left_is : (k : ℕ) → left k ≡ performed (want w.fixed.code (site_of w.fixed k) (i.at k).qpu) k (i.at k).qpu now.shared now.counts
+      (done_alone w.fixed.code (site_of w.fixed k) (i.at k).qpu (row_wanted (want w.fixed.code (site_of w.fixed k) (i.at k).qpu) now.shared.vpm))
+  left_is k =
       let q : Qpu = (i.at k).qpu in
       let e : left k ≡ local w.fixed.code (site_of w.fixed k) q now.shared now.counts = ap (λ f. local f.code (site_of f k) q now.shared now.counts) h.fixed in
-      let d = want w.fixed.code (site_of w.fixed k) q in
-      let y = step_splits w.fixed.code (site_of w.fixed k) q now.shared now.counts in
-      let z = ap (λ m. performed d m q now.shared now.counts (done_alone w.fixed.code (site_of w.fixed k) q (row_wanted d now.shared.vpm))) (number_is w.fixed k) in
-      subst (λ l. IsKept x w n c now.qpus now.memory k l) (sym (e ∙ y ∙ z))
-      (word_kept x w fits n c now.qpus now.shared now.memory i given_now k lt d refl (size_at k lt) (apart_at k lt) (allowed_at k lt) now.counts)
+      let d : Want = want w.fixed.code (site_of w.fixed k) q in
+      e ∙ step_splits w.fixed.code (site_of w.fixed k) q now.shared now.counts
+      ∙ ap (λ m. performed d m q now.shared now.counts (done_alone w.fixed.code (site_of w.fixed k) q (row_wanted d now.shared.vpm))) (number_is w.fixed k)
+
+  left_kept : (k : ℕ) → k < length w.qpus → IsKept x w n c now.qpus now.memory k (left k)
+  left_kept k lt =
+      subst (λ l. IsKept x w n c now.qpus now.memory k l) (sym (left_is k))
+      (word_kept x w fits n c now.qpus now.shared now.memory i given_now k lt (want w.fixed.code (site_of w.fixed k) (i.at k).qpu) refl (size_at k lt) (apart_at k lt)
+      (allowed_at k lt) now.counts)
 
   -- the notes after a step that did this
   abbrev noted_by : Step → Effect → ℕ → List Note

@@ -1,18 +1,19 @@
 -- The laws.
 use Rattle.std.proofs.Common.{◌≡◌, ◌≢◌, ℕ, zero, suc, ◌<◌, ◌≤◌, ◌%◌, ◌⊎◌, inl, inr, ⊎_elim, List, [], ◌∷◌, ◌++◌, length, get_or, refl, sym, ap, ◌∙◌, subst, arith, Bool, true, false}
-use Rattle.std.specs.Prelude.{slice_get, not, ◌&&◌}
+use Rattle.std.specs.Prelude.{slice_get, not, ◌&&◌, if◌then◌else◌}
 use Rattle.std.specs.List.{list_all}
 use Rattle.std.specs.declared.option.Option.{Option}
 use Rattle.std.specs.declared.option.Option.TheVariants.{Some, None}
 use Rattle.std.proofs.lemmas.Bool.{cases_lt}
-use Rattle.std.proofs.lemmas.Option.{slice_get_within}
-use Rattle.vpm_words.specs.Access.{Given, Private, Setup, Take, Give, ReadRow, WriteRow, StartLoad, StartStore, AwaitLoad, AwaitStore, owner_seen, is_busy}
+use Rattle.std.proofs.lemmas.Option.{slice_get_past, slice_get_within}
+use Rattle.vpm_words.specs.Access.{Given, Demand, share, Private, Setup, Take, Give, ReadRow, WriteRow, StartLoad, StartStore, AwaitLoad, AwaitStore, owner_seen, is_busy}
 use Rattle.vpm_words.specs.Rules.{is_other}
 use Rattle.vpm_words.specs.Moves.{number_at, store_all}
 use Rattle.vpm_words.specs.declared.state.Element.{Element}
 use Rattle.vpm_words.specs.declared.state.Rule.{Rule}
 use Rattle.vpm_words.specs.declared.state.Rule.TheVariants.{H8, H9, H10, H11}
 use Rattle.vpm_words.specs.declared.state.Shared.{Shared}
+use Rattle.qpu_machine.specs.declared.state.Effect.{Effect}
 use Rattle.qpu_machine.specs.declared.state.Effect.TheVariants as effect
 use Rattle.qpu_machine.specs.declared.state.Stop.TheVariants as stop
 use Rattle.qpu_machine.specs.declared.state.Step.{Step}
@@ -20,22 +21,22 @@ use Rattle.qpu_machine.specs.declared.state.Step.TheVariants.{Issue, Load, Store
 use Rattle.qpu_machine.specs.declared.state.Qpu.{Qpu}
 use Rattle.qpu_machine.specs.declared.state.Counts.{Counts}
 use Rattle.qpu_machine.specs.Planned.{site_of}
-use Rattle.qpu_machine.specs.IssueStep.{Local, local, judged}
+use Rattle.qpu_machine.specs.IssueStep.{Local, idle, local, judged}
 use Rattle.qpu_machine.specs.MachineState.{MachineState, stop_of, stop_at, all_ended, are_idle}
-use Rattle.qpu_machine.specs.MachineRun.{step_of, happens, machine_run, is_effective}
-use Rattle.qpu_machine.specs.SoloRun.{Want, Rests, Breaks, Wants, done_alone, row_wanted, performed, Due, Note, Solo}
+use Rattle.qpu_machine.specs.MachineRun.{turn, turn_at, turned, step_of, happens, machine_run, is_effective}
+use Rattle.qpu_machine.specs.SoloRun.{Want, Rests, Breaks, Wants, done_alone, row_wanted, performed, Due, Note, Solo, AnyCovers}
 use Rattle.qpu_machine.proofs.Split.{step_splits}
 use Rattle.qpu_machine.proofs.SplitUses.{ended_rests, rests_ended}
 use Rattle.qpu_machine.proofs.Steps.{happens_goes, issue_is, load_is, store_is}
 use Rattle.solo_law.specs.Sharing.{Shares, of_qpu, changed_by_all}
-use Rattle.solo_law.specs.Premises.{qpu_at, solo_of, next_of, TouchesOf, Premises}
-use Rattle.solo_law.specs.Laws.{Ends, EveryRunProjects, sum_to, cost, EveryRunIsBounded, NoRunIsStuck}
+use Rattle.solo_law.specs.Premises.{qpu_at, solo_of, next_of, SetsOf, TouchesOf, Premises}
+use Rattle.solo_law.specs.Laws.{load_started, store_started, Ends, EveryRunProjects, sum_to, cost, EveryRunIsBounded, NoRunIsStuck}
 use Rattle.solo_law.proofs.Changes.{all_same}
 use Rattle.solo_law.proofs.Alone.{cost_most, notes_most, same_end, same_made}
 use Rattle.solo_law.proofs.Invariant.{Out, Agrees, Inv}
 use Rattle.solo_law.proofs.Allowed.{Allowed, mine_none, first_none, take_none, rows_free, none_busy}
-use Rattle.solo_law.proofs.Words.{number_is}
-use Rattle.solo_law.proofs.Steps.{Now, allowed_at, run_now}
+use Rattle.solo_law.proofs.Words.{number_is, reads, sets}
+use Rattle.solo_law.proofs.Steps.{Now, given_now, allowed_at, left_is, run_now}
 
 -- ---- the stop of a run that breaks nothing
 
@@ -139,6 +140,102 @@ module _ (x : Shares) (w : MachineState) (fits : Premises x w) (n : ℕ) (c : �
       ap (λ s. s.made) (sym r.is)
       ∙ same_made (of_qpu x k) w.fixed.code (site_of w.fixed k) w (qpu_at w k) (fits.clean k lt) r.contents (contents k) r.valid (ends k lt).valid (reached_end over k lt) (ends k lt).rests)
 
+-- a fact of what an issue leaves holds where nothing is changed and where the word is done
+judged_either : (P : Local → Type 0) (b : Option Rule) (y : Bool) (k : ℕ) (q : Qpu) (s : Shared) (counts : Counts) (l : Local)
+    → ((e : Effect) → P (idle q s counts e)) → P l → P (judged b y k q s counts l)
+judged_either P (Some rule) y k q s counts l hi hl = hi _
+judged_either P None true k q s counts l hi hl = hi _
+judged_either P None false k q s counts l hi hl = hl
+
+-- ---- the transfers that are started
+
+module _ (x : Shares) (w : MachineState) (fits : Premises x w) (n : ℕ) (c : ℕ → List Note) (now : MachineState) (h : Now x w n c now) where
+  abbrev inv : Inv x w n c now.qpus now.shared now.memory
+  inv = h.inv
+
+  -- what an issue of QPU k leaves, and whose it is
+  abbrev Left : (Shared → List Element) → (ℕ → Type 0) → Local → Type 0
+  Left part Mine l = (a : ℕ) → AnyCovers (part l.shared) a → Mine a
+
+  from_none : (part : Shared → List Element) (Mine : ℕ → Type 0) → part now.shared ≡ [] → (s : Shared) → part s ≡ part now.shared → (a : ℕ) → AnyCovers (part s) a → Mine a
+  from_none part Mine e s es a cov = absurd (subst (λ l. AnyCovers l a) (es ∙ e) cov)
+
+  load_mine : (k : ℕ) → k < length w.qpus → now.shared.loads ≡ [] → (d : Want) → next_of w k (inv.at k) ≡ d → (after : Qpu)
+      → Left (λ s. s.loads) (TouchesOf x w k) (performed d k (inv.at k).qpu now.shared now.counts after)
+  load_mine k lt e Rests ed after = from_none (λ s. s.loads) (TouchesOf x w k) e now.shared refl
+  load_mine k lt e (Breaks rule) ed after = from_none (λ s. s.loads) (TouchesOf x w k) e now.shared refl
+  load_mine k lt e (Wants d) ed after =
+      judged_either (Left (λ s. s.loads) (TouchesOf x w k)) _ _ k (inv.at k).qpu now.shared now.counts _
+      (λ y. from_none (λ s. s.loads) (TouchesOf x w k) e now.shared refl) (shared_after d ed)
+    where
+      same : (s : Shared) → s.loads ≡ now.shared.loads → (a : ℕ) → AnyCovers s.loads a → TouchesOf x w k a
+      same = from_none (λ s. s.loads) (TouchesOf x w k) e
+
+      shared_after : (d : Demand) → next_of w k (inv.at k) ≡ Wants d → (a : ℕ) → AnyCovers (share d k now.shared).loads a → TouchesOf x w k a
+      shared_after (Private late) ed = same (share (Private late) k now.shared) refl
+      shared_after (Setup late) ed = same (share (Setup late) k now.shared) refl
+      shared_after Take ed = same (share Take k now.shared) refl
+      shared_after Give ed = same (share Give k now.shared) refl
+      shared_after (ReadRow row late) ed = same (share (ReadRow row late) k now.shared) refl
+      shared_after (WriteRow row words late) ed = same (share (WriteRow row words late) k now.shared) refl
+      shared_after (StartLoad es late) ed = λ a cov. reads x w fits n c now.qpus now.shared now.memory inv (given_now x w fits n c now h) k lt es late ed (inv.at k).change refl a cov
+      shared_after (StartStore es late) ed = same (share (StartStore es late) k now.shared) refl
+      shared_after AwaitLoad ed = same (share AwaitLoad k now.shared) refl
+      shared_after AwaitStore ed = same (share AwaitStore k now.shared) refl
+
+  store_mine : (k : ℕ) → k < length w.qpus → now.shared.stores ≡ [] → (d : Want) → next_of w k (inv.at k) ≡ d → (after : Qpu)
+      → Left (λ s. s.stores) (SetsOf x w k) (performed d k (inv.at k).qpu now.shared now.counts after)
+  store_mine k lt e Rests ed after = from_none (λ s. s.stores) (SetsOf x w k) e now.shared refl
+  store_mine k lt e (Breaks rule) ed after = from_none (λ s. s.stores) (SetsOf x w k) e now.shared refl
+  store_mine k lt e (Wants d) ed after =
+      judged_either (Left (λ s. s.stores) (SetsOf x w k)) _ _ k (inv.at k).qpu now.shared now.counts _
+      (λ y. from_none (λ s. s.stores) (SetsOf x w k) e now.shared refl) (shared_after d ed)
+    where
+      same : (s : Shared) → s.stores ≡ now.shared.stores → (a : ℕ) → AnyCovers s.stores a → SetsOf x w k a
+      same = from_none (λ s. s.stores) (SetsOf x w k) e
+
+      shared_after : (d : Demand) → next_of w k (inv.at k) ≡ Wants d → (a : ℕ) → AnyCovers (share d k now.shared).stores a → SetsOf x w k a
+      shared_after (Private late) ed = same (share (Private late) k now.shared) refl
+      shared_after (Setup late) ed = same (share (Setup late) k now.shared) refl
+      shared_after Take ed = same (share Take k now.shared) refl
+      shared_after Give ed = same (share Give k now.shared) refl
+      shared_after (ReadRow row late) ed = same (share (ReadRow row late) k now.shared) refl
+      shared_after (WriteRow row words late) ed = same (share (WriteRow row words late) k now.shared) refl
+      shared_after (StartLoad es late) ed = same (share (StartLoad es late) k now.shared) refl
+      shared_after (StartStore es late) ed = λ a cov. sets x w fits n c now.qpus now.shared now.memory inv (given_now x w fits n c now h) k lt es late ed (inv.at k).change refl a cov
+      shared_after AwaitLoad ed = same (share AwaitLoad k now.shared) refl
+      shared_after AwaitStore ed = same (share AwaitStore k now.shared) refl
+
+  -- what is shared after an issue
+  issue_shared : (k : ℕ) → k < length w.qpus → (happens now (Issue k)).state.shared ≡ (local now.fixed.code (site_of now.fixed k) (inv.at k).qpu now.shared now.counts).shared
+  issue_shared k lt = ap (λ y. y.state.shared) (happens_goes now (Issue k) h.unbroken ∙ issue_is now k (inv.at k).qpu (inv.here k lt))
+
+  issue_past : (k : ℕ) → length w.qpus ≤ k → (happens now (Issue k)).state.shared ≡ now.shared
+  unfolding step_of turn
+  issue_past k le =
+      ap (λ y. y.state.shared) (happens_goes now (Issue k) h.unbroken)
+      ∙ ap (λ o. (turned now (turn_at now.fixed now.qpus now.shared now.counts k o)).state.shared) (slice_get_past now.qpus k (let m = inv.many in omega arith))
+
+  started : (part : Shared → List Element) (Mine : ℕ → ℕ → Type 0)
+      → ((k : ℕ) → k < length w.qpus → part now.shared ≡ [] → (d : Want) → next_of w k (inv.at k) ≡ d → (after : Qpu) → Left part (Mine k) (performed d k (inv.at k).qpu now.shared now.counts after))
+      → (k a : ℕ) → AnyCovers (if is_busy (part now.shared) then [] else part (happens now (Issue k)).state.shared) a → Mine k a
+  started part Mine mine k a = go (part now.shared) refl
+    where
+      go : (es : List Element) → part now.shared ≡ es → AnyCovers (if is_busy (part now.shared) then [] else part (happens now (Issue k)).state.shared) a → Mine k a
+      go (f ∷ es) e cov = absurd (subst (λ l. AnyCovers (if is_busy l then [] else part (happens now (Issue k)).state.shared) a) e cov)
+      go [] e cov =
+          let c0 : AnyCovers (part (happens now (Issue k)).state.shared) a = subst (λ l. AnyCovers (if is_busy l then [] else part (happens now (Issue k)).state.shared) a) e cov in
+          ⊎_elim
+          (λ lt. subst (λ l. Left part (Mine k) l) (sym (left_is x w fits n c now h k)) (mine k lt e (next_of w k (inv.at k)) refl _) a (subst (λ s. AnyCovers (part s) a) (issue_shared k lt) c0))
+          (λ le. absurd (subst (λ l. AnyCovers l a) (ap part (issue_past k le) ∙ e) c0))
+          (cases_lt k (length w.qpus))
+
+  pub loads_mine : (k a : ℕ) → AnyCovers (load_started now k) a → TouchesOf x w k a
+  loads_mine = started (λ s. s.loads) (TouchesOf x w) load_mine
+
+  pub stores_mine : (k a : ℕ) → AnyCovers (store_started now k) a → SetsOf x w k a
+  stores_mine = started (λ s. s.stores) (SetsOf x w) store_mine
+
 pub projects : EveryRunProjects
 projects x w fits steps =
     let now : MachineState = machine_run steps w in
@@ -160,6 +257,8 @@ projects x w fits steps =
           (m.0, m.1 ∙ ap (λ l. m.0 ++ l) (ap (λ s. s.notes) r.is ∙ i.notes k lt));
       written = λ f. left x w fits _ _ now h (is_over now h.unbroken f);
       changed = λ f. left_changed x w fits _ _ now h (is_over now h.unbroken f);
+      loads = loads_mine x w fits _ _ now h;
+      stores = stores_mine x w fits _ _ now h;
       unwritten = i.rest;
     }
 

@@ -325,7 +325,7 @@ module _ (x : Shares) (w : MachineState) (fits : Premises x w) (n : ℕ) (c : �
   -- ---- a load is started
 
   -- the bytes of a started load are in the footprint
-  reads : (es : List Element) (late : Option Rule) → want code g s0.qpu ≡ Wants (StartLoad es late) → (o : Option Change) → s0.change ≡ o → (a : ℕ) → AnyCovers es a → TouchesOf x w k a
+  pub reads : (es : List Element) (late : Option Rule) → want code g s0.qpu ≡ Wants (StartLoad es late) → (o : Option Change) → s0.change ≡ o → (a : ℕ) → AnyCovers es a → TouchesOf x w k a
   reads es late e None eo a cov =
       let r = i.reach k lt in
       inl (record {
@@ -407,7 +407,7 @@ module _ (x : Shares) (w : MachineState) (fits : Premises x w) (n : ℕ) (c : �
     changes : (ch : Change) → s0.change ≡ Some ch → (a : ℕ) → AnyCovers es a → ChangesOf x w k a ch
     changes ch eo a cov = let r = i.reach k lt in record { contents = r.contents; valid = r.valid; change = ap (λ t. t.change) r.is ∙ eo; here = inr (stores a cov) }
 
-    sets : (o : Option Change) → s0.change ≡ o → (a : ℕ) → AnyCovers es a → SetsOf x w k a
+    pub sets : (o : Option Change) → s0.change ≡ o → (a : ℕ) → AnyCovers es a → SetsOf x w k a
     sets None eo a cov = inl (writes eo a cov)
     sets (Some ch) eo a cov = inr (ch, changes ch eo a cov)
 

@@ -1,17 +1,19 @@
 -- The laws that carry runs of one QPU alone to every interleaving of one to twelve QPUs and of the two engines. They are this project's own.
-use Rattle.std.specs.Prelude.{◌≡◌, ◌≢◌, ℕ, zero, suc, ◌+◌, ◌%◌, ◌<◌, ◌≤◌, List, [], ◌++◌, length, true, false, slice_get, get_or}
+use Rattle.std.specs.Prelude.{◌≡◌, ◌≢◌, ℕ, zero, suc, ◌+◌, ◌%◌, ◌<◌, ◌≤◌, List, [], ◌++◌, length, true, false, if◌then◌else◌, slice_get, get_or}
 use Rattle.std.specs.declared.option.Option.TheVariants.{Some}
-use Rattle.vpm_words.specs.Access.{Given}
+use Rattle.vpm_words.specs.Access.{Given, is_busy}
+use Rattle.vpm_words.specs.declared.state.Element.{Element}
 use Rattle.vpm_words.specs.Moves.{number_at}
 use Rattle.vpm_words.specs.declared.state.Rule.{Rule}
 use Rattle.qpu_machine.specs.declared.state.Step.{Step}
+use Rattle.qpu_machine.specs.declared.state.Step.TheVariants.{Issue}
 use Rattle.qpu_machine.specs.declared.state.Stop.TheVariants as stop
 use Rattle.qpu_machine.specs.Planned.{Planned, IsPlan}
 use Rattle.qpu_machine.specs.Opening.{Contents, opening}
 use Rattle.qpu_machine.specs.MachineState.{MachineState, stop_of}
 use Rattle.qpu_machine.specs.MachineRun.{happens, machine_run, is_effective, effective_steps}
 use Rattle.qpu_machine.specs.Reachable.{AreWords, AreBytes, AreContents}
-use Rattle.qpu_machine.specs.SoloRun.{Rests, Solo, Note, run_notes}
+use Rattle.qpu_machine.specs.SoloRun.{Rests, Solo, Note, AnyCovers, run_notes}
 use Rattle.solo_law.specs.Sharing.{Shares, changed_by_all}
 use Rattle.solo_law.specs.Premises.{solo_of, next_of, AreContentsFor, SetsOf, TouchesOf, IsStart, Premises}
 
@@ -33,6 +35,13 @@ GoesOn long short = (more : List Note) × (long ≡ more ++ short)
 
 -- ---- law_projects
 
+-- the elements of the transfer that an issue of QPU k starts next, none if it starts none; an engine is idle where a transfer is started
+abbrev pub load_started : MachineState → ℕ → List Element
+load_started s k = if is_busy s.shared.loads then [] else (happens s (Issue k)).state.shared.loads
+
+abbrev pub store_started : MachineState → ℕ → List Element
+store_started s k = if is_busy s.shared.stores then [] else (happens s (Issue k)).state.shared.stores
+
 -- what a run of these steps is to the runs alone
 pub record Projects (x : Shares) (w : MachineState) (steps : List Step) : Type 0 where
   -- no restriction is broken
@@ -51,6 +60,9 @@ pub record Projects (x : Shares) (w : MachineState) (steps : List Step) : Type 0
       → (contents : ℕ → List Given) → ((k : ℕ) → k < length w.qpus → Ends x w k (contents k))
       → (a : ℕ) → a % 4 ≡ 0 → x.is_shared a ≡ true
       → number_at 4 (machine_run steps w).memory a ≡ changed_by_all a (λ k. (solo_of x w k (contents k)).made) (length w.qpus) (number_at 4 w.memory a)
+  -- a transfer that QPU k starts next lies in its footprint
+  pub loads : (k a : ℕ) → AnyCovers (load_started (machine_run steps w) k) a → TouchesOf x w k a
+  pub stores : (k a : ℕ) → AnyCovers (store_started (machine_run steps w) k) a → SetsOf x w k a
   -- at every moment a byte that none writes or changes is as at opening
   pub unwritten : (a : ℕ) → ((k : ℕ) → k < length w.qpus → ¬ (SetsOf x w k a)) → get_or (machine_run steps w).memory a 0 ≡ get_or w.memory a 0
 
