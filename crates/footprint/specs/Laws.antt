@@ -1,8 +1,10 @@
 -- What shows that the definitions fit together.
-use Rattle.std.specs.Prelude.{◌≡◌, ℕ, ◌⊎◌, ◌↔◌, List}
+use Rattle.std.specs.Prelude.{◌≡◌, ℕ, ◌⊎◌, ◌↔◌, List, Option}
 use Rattle.footprint.specs.declared.marks.Mark.{Mark}
 use Rattle.footprint.specs.declared.marks.Use.{Use}
-use Rattle.footprint.specs.Marks.{Uses, Writes, ConflictAt, IsFirst}
+use Rattle.footprint.specs.declared.marks.Use.TheVariants.{Write}
+use Rattle.footprint.specs.Marks.{Uses, ConflictAt}
+use Rattle.footprint.specs.Least.{IsLeast}
 
 abbrev pub ConflictsAreMutual : Type 0
 ConflictsAreMutual = (f g : List Mark) (buffer byte : ℕ) → ConflictAt f g buffer byte → ConflictAt g f buffer byte
@@ -10,7 +12,7 @@ ConflictsAreMutual = (f g : List Mark) (buffer byte : ℕ) → ConflictAt f g bu
 -- so two that only read never conflict
 abbrev pub ConflictsNeedAWrite : Type 0
 ConflictsNeedAWrite =
-    (f g : List Mark) (buffer byte : ℕ) → ConflictAt f g buffer byte → Writes f buffer byte ⊎ Writes g buffer byte
+    (f g : List Mark) (buffer byte : ℕ) → ConflictAt f g buffer byte → Uses f Write buffer byte ⊎ Uses g Write buffer byte
 
 -- the same bytes are used in the same way
 abbrev pub SameBytes : List Mark → List Mark → Type 0
@@ -21,5 +23,5 @@ abbrev pub ConflictsAreOfBytes : Type 0
 ConflictsAreOfBytes =
     (f f' g : List Mark) (buffer byte : ℕ) → SameBytes f f' → ConflictAt f g buffer byte → ConflictAt f' g buffer byte
 
-abbrev pub OneFirst : Type 0
-OneFirst = (f g : List Mark) (p q : ℕ × ℕ) → IsFirst f g p → IsFirst f g q → p ≡ q
+abbrev pub OneLeast : Type 0
+OneLeast = (f g : List Mark) (p q : Option (ℕ × ℕ)) → IsLeast (ConflictAt f g) p → IsLeast (ConflictAt f g) q → p ≡ q

@@ -1,7 +1,7 @@
 //! The first byte at which two footprints conflict.
 
-ghost use Rattle.std.specs.Prelude.{◌≡◌, ◌⊎◌, IfSome, IfNone, [], ◌∷◌};
-ghost use Rattle.footprint.specs.Marks.{ConflictAt, NeverConflict, IsFirst};
+ghost use Rattle.std.specs.Prelude.{◌≡◌, ◌⊎◌, [], ◌∷◌};
+ghost use Rattle.footprint.specs.Marks.{ConflictAt};
 ghost use Rattle.footprint.specs.Least.{IsLeast, IsNotAfter};
 
 use crate::marks::{Footprint, Mark, Use};
@@ -12,8 +12,7 @@ type Place = (u32, u32);
 /// The least buffer and, in it, the least byte that one of the two writes and the other reads or writes, or `None`
 /// where there is no such byte. Takes no memory.
 pub fn conflict(a: &Footprint, b: &Footprint) -> Option<(u32, u32)>
-    ensures first { IfSome result (IsFirst a.now b.now) }
-    ensures none { IfNone result (NeverConflict a.now b.now) }
+    ensures { IsLeast (ConflictAt a.now b.now) result }
 {
     first_of_all(&a.marks, &b.marks)
 }

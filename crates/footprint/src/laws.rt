@@ -1,6 +1,6 @@
 //! Laws of the definitions. Each is a call that does nothing, and its contract is the law.
 
-ghost use Rattle.footprint.specs.Laws.{ConflictsAreMutual, ConflictsNeedAWrite, ConflictsAreOfBytes, OneFirst};
+ghost use Rattle.footprint.specs.Laws.{ConflictsAreMutual, ConflictsNeedAWrite, ConflictsAreOfBytes, OneLeast};
 
 /// Two footprints conflict at the same bytes from both sides, and only at bytes that one of them writes. Only the
 /// bytes that are read and written count, however they were added. At most one place is the first.
@@ -8,5 +8,5 @@ pub fn law_conflicts()
     ensures mutual { ConflictsAreMutual }
     ensures write { ConflictsNeedAWrite }
     ensures bytes { ConflictsAreOfBytes }
-    ensures first { OneFirst }
+    ensures first { OneLeast }
 {}

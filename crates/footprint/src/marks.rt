@@ -58,7 +58,7 @@ impl Footprint {
     pub fn read(&mut self, buffer: u32, from: u32, to: u32) -> Result<(), Memory>
         ensures ok { OnOk result (Adds Use.Read buffer from to self.old self.new) }
         ensures err { OnErr result (self.new ≡ self.old) }
-        ensures no_bytes { to ≤ from → IsOk result }
+        ensures no_bytes { to ≤ from → IsOk result × (self.new ≡ self.old) }
     {
         self.add(Use::Read, buffer, from, to)
     }
@@ -68,7 +68,7 @@ impl Footprint {
     pub fn write(&mut self, buffer: u32, from: u32, to: u32) -> Result<(), Memory>
         ensures ok { OnOk result (Adds Use.Write buffer from to self.old self.new) }
         ensures err { OnErr result (self.new ≡ self.old) }
-        ensures no_bytes { to ≤ from → IsOk result }
+        ensures no_bytes { to ≤ from → IsOk result × (self.new ≡ self.old) }
     {
         self.add(Use::Write, buffer, from, to)
     }
@@ -76,7 +76,7 @@ impl Footprint {
     fn add(&mut self, how: Use, buffer: u32, from: u32, to: u32) -> Result<(), Memory>
         ensures ok { OnOk result (Adds how buffer from to self.old self.new) }
         ensures err { OnErr result (self.new ≡ self.old) }
-        ensures no_bytes { to ≤ from → IsOk result }
+        ensures no_bytes { to ≤ from → IsOk result × (self.new ≡ self.old) }
     {
         if from < to {
             self.marks.push(Mark {

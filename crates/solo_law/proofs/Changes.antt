@@ -5,7 +5,7 @@ use Rattle.std.proofs.lemmas.Bool.{cases_eq}
 use Rattle.q_lane.proofs.WordLaws.{applied-below}
 use Rattle.vpm_words.specs.Access.{overlaid}
 use Rattle.qpu_machine.specs.SoloRun.{Change, changed, Made}
-use Rattle.solo_law.specs.Sharing.{changed_by, changed_by_all, Commute}
+use Rattle.solo_law.specs.Sharing.{changed_by, Commute}
 
 -- ---- memory of which some bytes are taken from another
 
@@ -74,6 +74,11 @@ past_list at c (m ∷ ms) b h s l =
     (cases_eq m.address at)
 
 -- ---- the changes of all QPUs
+
+-- the changes of QPUs 0 to n - 1, one QPU after the other
+abbrev pub changed_by_all : ℕ → (ℕ → List Made) → ℕ → ℕ → ℕ
+changed_by_all at made zero word = word
+changed_by_all at made (suc n) word = changed_by at (made n) (changed_by_all at made n word)
 
 pub all_same : (at : ℕ) (f h : ℕ → List Made) (n b : ℕ) → ((j : ℕ) → j < n → f j ≡ h j) → changed_by_all at f n b ≡ changed_by_all at h n b
 all_same at f h zero b e = refl

@@ -8,10 +8,8 @@ use Rattle.std.specs.Int.Bits.{xor_assoc}
 use Rattle.std.proofs.lemmas.Bool.Decides.{nat_tests}
 use Rattle.q_lane.specs.Numbers.{is_less, applied}
 use Rattle.q_lane.proofs.WordLaws.{is_less-shifted}
-use Rattle.solo_law.specs.Sharing.{Sums, Ands, Ors, Xors, Mins, Maxes, GroupsCommute}
-
-sums : (a b w : ℕ) → ((w + b) % 2 ^ 32 + a) % 2 ^ 32 ≡ ((w + a) % 2 ^ 32 + b) % 2 ^ 32
-sums a b w = omega arith
+use Rattle.q_lane.specs.declared.operations.BinOp.{BinOp}
+use Rattle.solo_law.specs.Sharing.{Group, IsOf, Adds, Subs, Ands, Ors, Xors, MinInts, MaxInts, MinUints, MaxUints, Commute, GroupsCommute}
 
 or_assoc : (c a b : ℕ) → bit_or (bit_or a b) c ≡ bit_or a (bit_or b c)
 or_assoc =
@@ -76,13 +74,19 @@ two_maxes a b w ha hb hw =
     ap (λ m. if is_less true m a then a else m) (max_is w b hw hb)
     ∙ max_is (greater shifted w b) a (chosen_below (nat_lt (shifted w) (shifted b)) b w hb hw) ha
 
-pub groups_commute : GroupsCommute
+by_group : (g : Group) (o p : BinOp) → IsOf o g → IsOf p g → (a b : ℕ) → a < 2 ^ 32 → b < 2 ^ 32 → Commute (record { op = o; operand = a }) (record { op = p; operand = b })
 unfolding applied is_less
-groups_commute _ Sums a b ha hb w hw = sums a b w
-groups_commute _ Ands a b ha hb w hw = swapped bit_and and_comm (λ x y z. and_assoc z x y) a b w
-groups_commute _ Ors a b ha hb w hw = swapped bit_or or_comm (λ x y z. or_assoc z x y) a b w
-groups_commute _ Xors a b ha hb w hw = swapped bit_xor xor_comm xor_assoc a b w
-groups_commute _ (Mins false) a b ha hb w hw = lessers (λ x. x) (λ x y hx hy e. e) a b w ha hb hw
-groups_commute _ (Mins true) a b ha hb w hw = two_mins a b w ha hb hw ∙ lessers shifted shifted_keys a b w ha hb hw ∙ sym (two_mins b a w hb ha hw)
-groups_commute _ (Maxes false) a b ha hb w hw = greaters (λ x. x) (λ x y hx hy e. e) a b w ha hb hw
-groups_commute _ (Maxes true) a b ha hb w hw = two_maxes a b w ha hb hw ∙ greaters shifted shifted_keys a b w ha hb hw ∙ sym (two_maxes b a w hb ha hw)
+by_group _ _ _ Adds Adds a b ha hb w hw = omega arith
+by_group _ _ _ Adds Subs a b ha hb w hw = omega arith
+by_group _ _ _ Subs Adds a b ha hb w hw = omega arith
+by_group _ _ _ Subs Subs a b ha hb w hw = omega arith
+by_group _ _ _ Ands Ands a b ha hb w hw = swapped bit_and and_comm (λ x y z. and_assoc z x y) a b w
+by_group _ _ _ Ors Ors a b ha hb w hw = swapped bit_or or_comm (λ x y z. or_assoc z x y) a b w
+by_group _ _ _ Xors Xors a b ha hb w hw = swapped bit_xor xor_comm xor_assoc a b w
+by_group _ _ _ MinUints MinUints a b ha hb w hw = lessers (λ x. x) (λ x y hx hy e. e) a b w ha hb hw
+by_group _ _ _ MinInts MinInts a b ha hb w hw = two_mins a b w ha hb hw ∙ lessers shifted shifted_keys a b w ha hb hw ∙ sym (two_mins b a w hb ha hw)
+by_group _ _ _ MaxUints MaxUints a b ha hb w hw = greaters (λ x. x) (λ x y hx hy e. e) a b w ha hb hw
+by_group _ _ _ MaxInts MaxInts a b ha hb w hw = two_maxes a b w ha hb hw ∙ greaters shifted shifted_keys a b w ha hb hw ∙ sym (two_maxes b a w hb ha hw)
+
+pub groups_commute : GroupsCommute
+groups_commute g c d hc hd ha hb = by_group g c.op d.op hc hd c.operand d.operand ha hb

@@ -11,7 +11,8 @@ use Rattle.vpm_words.specs.declared.state.Shared.{Shared}
 use Rattle.qpu_machine.specs.declared.state.Qpu.{Qpu}
 use Rattle.qpu_machine.specs.MachineState.{MachineState}
 use Rattle.qpu_machine.specs.SoloRun.{Due, NoneDue, LoadDue, StoreDue, Note, Solo, AnyCovers}
-use Rattle.solo_law.specs.Sharing.{Shares, changed_by_all}
+use Rattle.solo_law.proofs.Changes.{changed_by_all}
+use Rattle.solo_law.specs.Sharing.{Shares}
 use Rattle.solo_law.specs.Premises.{solo_of, AreContentsFor, SetsOf, TouchesOf}
 use Rattle.solo_law.specs.Laws.{sum_to, cost}
 use Rattle.solo_law.proofs.Elements.{AreApartAll}

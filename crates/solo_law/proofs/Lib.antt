@@ -1,6 +1,7 @@
 pub mod Lists
 pub mod Elements
 pub mod Changes
+pub mod Orders
 pub mod Alone
 pub mod Invariant
 pub mod Allowed

@@ -25,7 +25,8 @@ use Rattle.qpu_machine.specs.Opening.{opening_qpu, zero_regs}
 use Rattle.qpu_machine.proofs.Split.{step_splits}
 use Rattle.qpu_machine.proofs.Steps.{happens_goes, issue_is, chosen, load_is, store_is, happens_fixed}
 use Rattle.qpu_machine.proofs.RangeRuns.{happens-keeps}
-use Rattle.solo_law.specs.Sharing.{Shares, of_qpu, changed_by_all}
+use Rattle.solo_law.proofs.Changes.{changed_by_all}
+use Rattle.solo_law.specs.Sharing.{Shares, of_qpu}
 use Rattle.solo_law.specs.Premises.{qpu_at, solo_of, next_of, Premises}
 use Rattle.solo_law.specs.Laws.{sum_to, cost}
 use Rattle.solo_law.proofs.Elements.{HasAt, has_at, store_length, store_elsewhere, store_first, remove_length}

@@ -24,18 +24,19 @@ use Rattle.qpu_machine.specs.Planned.{site_of}
 use Rattle.qpu_machine.specs.IssueStep.{Local, idle, local, judged}
 use Rattle.qpu_machine.specs.MachineState.{MachineState, stop_of, stop_at, all_ended, are_idle}
 use Rattle.qpu_machine.specs.MachineRun.{turn, turn_at, turned, step_of, happens, machine_run, is_effective}
-use Rattle.qpu_machine.specs.SoloRun.{Want, Rests, Breaks, Wants, done_alone, row_wanted, performed, Due, Note, Solo, AnyCovers}
+use Rattle.qpu_machine.specs.SoloRun.{Want, Rests, Breaks, Wants, done_alone, row_wanted, performed, Due, Note, Made, Solo, AnyCovers}
 use Rattle.qpu_machine.proofs.Split.{step_splits}
 use Rattle.qpu_machine.proofs.SplitUses.{ended_rests, rests_ended}
 use Rattle.qpu_machine.proofs.Steps.{happens_goes, issue_is, load_is, store_is}
-use Rattle.solo_law.specs.Sharing.{Shares, of_qpu, changed_by_all}
-use Rattle.solo_law.specs.Premises.{qpu_at, solo_of, next_of, SetsOf, TouchesOf, Premises}
+use Rattle.solo_law.specs.Sharing.{Shares, of_qpu, changed_by, Commute, own, without_numbers, IsOrder}
+use Rattle.solo_law.specs.Premises.{qpu_at, solo_of, next_of, ChangesOf, SetsOf, TouchesOf, Premises}
 use Rattle.solo_law.specs.Laws.{load_started, store_started, Ends, EveryRunProjects, sum_to, cost, EveryRunIsBounded, NoRunIsStuck}
-use Rattle.solo_law.proofs.Changes.{all_same}
-use Rattle.solo_law.proofs.Alone.{cost_most, notes_most, same_end, same_made}
+use Rattle.solo_law.proofs.Changes.{AreSmall, all_same, changed_by_all}
+use Rattle.solo_law.proofs.Orders.{AllOf, all_of, any_order}
+use Rattle.solo_law.proofs.Alone.{AreKnown, cost_most, notes_most, same_end, same_made, made_known, made_small}
 use Rattle.solo_law.proofs.Invariant.{Out, Agrees, Inv}
 use Rattle.solo_law.proofs.Allowed.{Allowed, mine_none, first_none, take_none, rows_free, none_busy}
-use Rattle.solo_law.proofs.Words.{number_is, reads, sets}
+use Rattle.solo_law.proofs.Words.{number_is, word_below, reads, sets}
 use Rattle.solo_law.proofs.Steps.{Now, given_now, allowed_at, left_is, run_now}
 
 -- ---- the stop of a run that breaks nothing
@@ -236,6 +237,33 @@ module _ (x : Shares) (w : MachineState) (fits : Premises x w) (n : ℕ) (c : �
   pub stores_mine : (k a : ℕ) → AnyCovers (store_started now k) a → SetsOf x w k a
   stores_mine = started (λ s. s.stores) (SetsOf x w) store_mine
 
+  abbrev AreMine : ℕ → Made → Type 0
+  AreMine k m = (k < length w.qpus) × ChangesOf x w k m.address m.change
+
+  one_word : (a j k : ℕ) (m o : Made) → j ≢ k → AreMine j m → AreMine k o → m.address ≡ a → o.address ≡ a → Commute o.change m.change
+  one_word a j k m o ne p q em eo =
+      (fits.apart k j q.0 p.0 (λ z. ne (sym z))).commute a o.change m.change (subst (λ b. ChangesOf x w k b o.change) eo q.1) (subst (λ b. ChangesOf x w j b m.change) em p.1)
+
+  all_mine : (a k : ℕ) → (lt : k < length w.qpus) → (ms : List Made) → AreKnown (of_qpu x k) w.fixed.code (site_of w.fixed k) w (qpu_at w k) (fits.clean k lt) ms → AreSmall ms
+      → AllOf AreMine (length w.qpus) a (one_word a) k ms
+  all_mine a k lt [] h s = tt
+  all_mine a k lt (m ∷ ms) h s = ((lt, h.0), s.0, all_mine a k lt ms h.1 s.1)
+
+  left_in_order : IsOver now → (contents : ℕ → List Given) → ((k : ℕ) → k < length w.qpus → Ends x w k (contents k))
+      → (ms : List (ℕ × Made)) → IsOrder (length w.qpus) (λ k. (solo_of x w k (contents k)).made) ms → (a : ℕ) → a % 4 ≡ 0 → x.is_shared a ≡ true
+      → number_at 4 now.memory a ≡ changed_by a (without_numbers ms) (number_at 4 w.memory a)
+  left_in_order over contents ends ms order a al sx =
+      let all =
+      all_of AreMine (length w.qpus) a (one_word a) ms order.there
+      (λ k lt.
+      subst (AllOf AreMine (length w.qpus) a (one_word a) k) (sym (order.each k lt))
+      (all_mine a k lt _
+      (made_known (of_qpu x k) w.fixed.code (site_of w.fixed k) w (qpu_at w k) (fits.clean k lt) (contents k) (ends k lt).valid)
+      (made_small (of_qpu x k) w.fixed.code (site_of w.fixed k) w (qpu_at w k) (fits.clean k lt) (λ n. fits.operands k n) (contents k)))) in
+      left_changed x w fits n c now h over contents ends a al sx
+      ∙ all_same a (λ k. (solo_of x w k (contents k)).made) (λ k. own k ms) (length w.qpus) (number_at 4 w.memory a) (λ k lt. sym (order.each k lt))
+      ∙ sym (any_order AreMine (length w.qpus) a (one_word a) ms (number_at 4 w.memory a) all (word_below w.memory a fits.start.range.memory))
+
 pub projects : EveryRunProjects
 projects x w fits steps =
     let now : MachineState = machine_run steps w in
@@ -256,7 +284,7 @@ projects x w fits steps =
           let m = notes_most (of_qpu x k) w.fixed.code (site_of w.fixed k) w (qpu_at w k) (fits.clean k lt) contents r.contents ends.valid r.valid ends.rests in
           (m.0, m.1 ∙ ap (λ l. m.0 ++ l) (ap (λ s. s.notes) r.is ∙ i.notes k lt));
       written = λ f. left x w fits _ _ now h (is_over now h.unbroken f);
-      changed = λ f. left_changed x w fits _ _ now h (is_over now h.unbroken f);
+      changed = λ f. left_in_order x w fits _ _ now h (is_over now h.unbroken f);
       loads = loads_mine x w fits _ _ now h;
       stores = stores_mine x w fits _ _ now h;
       unwritten = i.rest;

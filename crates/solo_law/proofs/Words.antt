@@ -21,11 +21,11 @@ use Rattle.qpu_machine.specs.MachineState.{MachineState}
 use Rattle.qpu_machine.specs.MachineRun.{is_effective, fault_after}
 use Rattle.qpu_machine.specs.Reachable.{AreBytes}
 use Rattle.qpu_machine.specs.SoloRun.{Want, Rests, Breaks, Wants, want, done_alone, row_at, row_wanted, performed, Change, changed, NoneDue, deed, Note, Made, with_change, Solo, does, solo, IsGiven, AnyCovers, LoadsByte, StoresByte, KeepsApart, noted}
-use Rattle.solo_law.specs.Sharing.{Shares, of_qpu, changed_by_all}
+use Rattle.solo_law.specs.Sharing.{Shares, of_qpu}
 use Rattle.solo_law.specs.Premises.{qpu_at, solo_of, next_of, WritesOf, ChangesOf, SetsOf, TouchesOf, Premises}
 use Rattle.solo_law.proofs.Lists.{get_set, get_set_other}
 use Rattle.solo_law.proofs.Elements.{AreApartAll, number_agrees, store_all_elsewhere, load_all_agrees, store_all_keeps}
-use Rattle.solo_law.proofs.Changes.{overlaid_in, overlaid_out, AreSmall, CommuteAll, all_same, all_skip, all_more}
+use Rattle.solo_law.proofs.Changes.{overlaid_in, overlaid_out, AreSmall, CommuteAll, all_same, all_skip, all_more, changed_by_all}
 use Rattle.solo_law.proofs.Alone.{AreKnown, made_known, made_small}
 use Rattle.solo_law.proofs.Invariant.{IsReached, Out, CountsFor, Held, Agrees, Inv, upd, upd_same, upd_other, each_upd, sum_upd}
 use Rattle.solo_law.proofs.Allowed.{AllowedBy, Allowed, mine_none, first_none, take_none, take_waits, rows_free, none_busy, StartsApart, want_apart}

@@ -13,8 +13,8 @@ use Rattle.qpu_machine.specs.Opening.{Contents, opening}
 use Rattle.qpu_machine.specs.MachineState.{MachineState, stop_of}
 use Rattle.qpu_machine.specs.MachineRun.{happens, machine_run, is_effective, effective_steps}
 use Rattle.qpu_machine.specs.Reachable.{AreWords, AreBytes, AreContents}
-use Rattle.qpu_machine.specs.SoloRun.{Rests, Solo, Note, AnyCovers, run_notes}
-use Rattle.solo_law.specs.Sharing.{Shares, changed_by_all}
+use Rattle.qpu_machine.specs.SoloRun.{Rests, Solo, Note, Made, AnyCovers, run_notes}
+use Rattle.solo_law.specs.Sharing.{Shares, changed_by, without_numbers, IsOrder}
 use Rattle.solo_law.specs.Premises.{solo_of, next_of, AreContentsFor, SetsOf, TouchesOf, IsStart, Premises}
 
 -- with these contents the run of QPU k alone has ended
@@ -46,6 +46,7 @@ store_started s k = if is_busy s.shared.stores then [] else (happens s (Issue k)
 pub record Projects (x : Shares) (w : MachineState) (steps : List Step) : Type 0 where
   -- no restriction is broken
   pub unbroken : (rule : Rule) (k place : ℕ) → stop_of (machine_run steps w) ≢ stop.Broken rule k place
+  -- each QPU stands where its run alone stands with some contents
   pub follows : (k : ℕ) → k < length w.qpus → Follows x w k steps
   -- the places of QPU k's words and the transfers that it starts are the first ones of its run alone, whatever the contents
   pub prefix : (k : ℕ) → k < length w.qpus → (contents : List Given) → Ends x w k contents
@@ -55,11 +56,12 @@ pub record Projects (x : Shares) (w : MachineState) (steps : List Step) : Type 0
       → (k : ℕ) → k < length w.qpus → (contents : List Given) → Ends x w k contents
       → (a : ℕ) → TouchesOf x w k a → x.is_shared a ≡ false
       → get_or (machine_run steps w).memory a 0 ≡ get_or (solo_of x w k contents).memory a 0
-  -- and of each shared word what the changes of all runs alone make of the opening's
+  -- and of each shared word what the changes of all runs alone make of the opening's, in whatever order
   pub changed : stop_of (machine_run steps w) ≡ stop.Finished
       → (contents : ℕ → List Given) → ((k : ℕ) → k < length w.qpus → Ends x w k (contents k))
+      → (ms : List (ℕ × Made)) → IsOrder (length w.qpus) (λ k. (solo_of x w k (contents k)).made) ms
       → (a : ℕ) → a % 4 ≡ 0 → x.is_shared a ≡ true
-      → number_at 4 (machine_run steps w).memory a ≡ changed_by_all a (λ k. (solo_of x w k (contents k)).made) (length w.qpus) (number_at 4 w.memory a)
+      → number_at 4 (machine_run steps w).memory a ≡ changed_by a (without_numbers ms) (number_at 4 w.memory a)
   -- a transfer that QPU k starts next lies in its footprint
   pub loads : (k a : ℕ) → AnyCovers (load_started (machine_run steps w) k) a → TouchesOf x w k a
   pub stores : (k a : ℕ) → AnyCovers (store_started (machine_run steps w) k) a → SetsOf x w k a

@@ -1,5 +1,4 @@
--- What the laws ask of an opening: the run of each QPU alone is clean, and what one of them writes or changes is nothing that another
--- needs. It is this project's own.
+-- What the laws ask of an opening: the run of each QPU alone is clean, and the footprints of no two conflict. It is this project's own.
 use Rattle.std.specs.Prelude.{◌≡◌, ◌≢◌, ℕ, ◌/◌, ◌<◌, List, [], length, true, get_or}
 use Rattle.std.specs.declared.option.Option.TheVariants.{None}
 use Rattle.vpm_words.specs.Access.{Given}
@@ -51,7 +50,7 @@ TouchesOf x w k a = Touches (of_qpu x k) w.fixed.code (site_of w.fixed k) (alone
 
 -- ---- an opening, and two QPUs of it
 
--- nobody owns the mutex, the engines are idle, no restriction is broken, and all is in range. It has at most twelve QPUs
+-- nobody owns the mutex, the engines are idle, no restriction is broken, and all is in range, so there are at most twelve QPUs
 pub record IsStart (w : MachineState) : Type 0 where
   pub owner : w.shared.owner ≡ None
   pub loads : w.shared.loads ≡ []
@@ -61,7 +60,7 @@ pub record IsStart (w : MachineState) : Type 0 where
 
 -- the footprints of QPUs j and k don't conflict, where j's writes and changes are looked at. A byte that both change is one of a shared
 -- word, and it doesn't matter which of them changes it first
-pub record AreApart (x : Shares) (w : MachineState) (j k : ℕ) : Type 0 where
+pub record DontConflict (x : Shares) (w : MachineState) (j k : ℕ) : Type 0 where
   pub writes : (a : ℕ) → WritesOf x w j a → ¬ (TouchesOf x w k a)
   pub changes : (a : ℕ) (c : Change) → ChangesOf x w j a c → ¬ (ReadsOf x w k a)
   pub commute : (a : ℕ) (c d : Change) → ChangesOf x w j a c → ChangesOf x w k a d → Commute c d
@@ -73,7 +72,7 @@ pub record Premises (x : Shares) (w : MachineState) : Type 0 where
   -- each QPU alone is clean
   pub clean : (k : ℕ) → k < length w.qpus → IsCleanOf x w k
   -- and no two of them conflict
-  pub apart : (j k : ℕ) → j < length w.qpus → k < length w.qpus → j ≢ k → AreApart x w j k
+  pub apart : (j k : ℕ) → j < length w.qpus → k < length w.qpus → j ≢ k → DontConflict x w j k
   -- shared words are whole aligned words, and operands of changes are words
   pub whole : (a b : ℕ) → a / 4 ≡ b / 4 → x.is_shared a ≡ x.is_shared b
   pub operands : AreOperands x

@@ -6,8 +6,9 @@
 ghost use Rattle.solo_law.specs.Laws.{EveryRunProjects, EveryRunIsBounded, NoRunIsStuck, OpeningsStart};
 ghost use Rattle.solo_law.specs.Sharing.{GroupsCommute};
 
-/// Where each QPU alone is clean and no two of them conflict, no run breaks a restriction, each QPU
-/// stays on its run alone, and a finished run leaves what the runs alone leave.
+/// Let each QPU alone be clean and no two conflict. Then no run breaks a restriction; the places and
+/// transfers of each QPU are the first ones of its run alone; a finished run leaves of each byte what
+/// the run alone that touches it leaves; and a byte that none writes is as at the opening.
 pub fn law_projects()
     ensures { EveryRunProjects }
 {}
@@ -22,7 +23,8 @@ pub fn law_never_stuck()
     ensures { NoRunIsStuck }
 {}
 
-/// Sums commute with sums, and so do the other operations that change shared words.
+/// Two changes of one group commute: sums and differences, ands, ors, exclusive ors, and the lesser or
+/// the greater of words in one reading.
 pub fn law_groups()
     ensures { GroupsCommute }
 {}
