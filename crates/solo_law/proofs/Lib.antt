@@ -11,3 +11,4 @@ pub mod Steps
 pub mod Theorems
 pub mod Groups
 pub mod Opening
+pub mod Rounds

@@ -12,6 +12,7 @@ use Rattle.qpu_machine.specs.Planned.{Planned, IsPlan}
 use Rattle.qpu_machine.specs.Opening.{Contents, opening}
 use Rattle.qpu_machine.specs.MachineState.{MachineState, stop_of}
 use Rattle.qpu_machine.specs.MachineRun.{happens, machine_run, is_effective, effective_steps}
+use Rattle.qpu_machine.specs.Schedules.{rounds_of}
 use Rattle.qpu_machine.specs.Reachable.{AreWords, AreBytes, AreContents}
 use Rattle.qpu_machine.specs.SoloRun.{Rests, Solo, Note, Made, AnyCovers, run_notes}
 use Rattle.solo_law.specs.Sharing.{Shares, changed_by, without_numbers, IsOrder}
@@ -96,6 +97,18 @@ NoRunIsStuck =
     (x : Shares) (w : MachineState) → Premises x w
     → (steps : List Step) → stop_of (machine_run steps w) ≢ stop.Finished
     → (step : Step) × (is_effective (happens (machine_run steps w) step).effect ≡ true)
+
+-- ---- law_rounds
+
+-- Where no schedule breaks a restriction or is stuck, and no schedule has more effective steps than a limit, as many rounds as the limit finish the
+-- run: each round has an effective step, until it is finished
+abbrev pub RoundsFinish : Type 0
+RoundsFinish =
+    (w : MachineState) (limit : ℕ)
+    → ((steps : List Step) (rule : Rule) (k place : ℕ) → stop_of (machine_run steps w) ≢ stop.Broken rule k place)
+    → ((steps : List Step) → stop_of (machine_run steps w) ≢ stop.Finished → (step : Step) × (is_effective (happens (machine_run steps w) step).effect ≡ true))
+    → ((steps : List Step) → effective_steps steps w ≤ limit)
+    → (n : ℕ) → limit ≤ n → stop_of (machine_run (rounds_of n (length w.qpus)) w) ≡ stop.Finished
 
 -- ---- openings
 

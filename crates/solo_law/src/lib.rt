@@ -3,7 +3,7 @@
 //! does nothing, and its contract is the law.
 #![tactic(auto)]
 
-ghost use Rattle.solo_law.specs.Laws.{EveryRunProjects, EveryRunIsBounded, NoRunIsStuck, OpeningsStart};
+ghost use Rattle.solo_law.specs.Laws.{EveryRunProjects, EveryRunIsBounded, NoRunIsStuck, RoundsFinish, OpeningsStart};
 ghost use Rattle.solo_law.specs.Sharing.{GroupsCommute};
 
 /// Let each QPU alone be clean and no two conflict. Then no run breaks a restriction; the places and
@@ -21,6 +21,12 @@ pub fn law_bound()
 /// Where a run isn't finished, some step is effective.
 pub fn law_never_stuck()
     ensures { NoRunIsStuck }
+{}
+
+/// As many rounds of all QPUs and engines as the bound finish a run that is never broken and never
+/// stuck.
+pub fn law_rounds()
+    ensures { RoundsFinish }
 {}
 
 /// Two changes of one group commute: sums and differences, ands, ors, exclusive ors, and the lesser or
