@@ -12,3 +12,8 @@ pub mod Theorems
 pub mod Groups
 pub mod Opening
 pub mod Rounds
+pub mod Forward
+pub mod ExampleWords
+pub mod ExampleMoments
+pub mod ExampleRuns
+pub mod ExampleFit

@@ -1,5 +1,5 @@
 -- Rounds of all QPUs and engines reach the end of a run that is never stuck.
-use Rattle.std.proofs.Common.{◌≡◌, ◌≢◌, ◌⊎◌, inl, inr, ⊎_elim, ℕ, zero, suc, ◌+◌, ◌%◌, ◌<◌, ◌≤◌, List, [], ◌∷◌, ◌++◌, length, map, get_or, refl, sym, ap, ◌∙◌, subst, arith, append-nil, Bool, true, false}
+use Rattle.std.proofs.Common.{◌≡◌, ◌≢◌, ◌⊎◌, inl, inr, ⊎_elim, ℕ, zero, suc, ◌+◌, ◌%◌, ◌<◌, ◌≤◌, List, [], ◌∷◌, ◌++◌, length, map, refl, sym, ap, ◌∙◌, subst, arith, true, false}
 use Rattle.std.specs.Prelude.{slice_get, if◌then◌else◌, ◌&&◌, ⊤}
 use Rattle.std.specs.List.{range_with_len}
 use Rattle.std.specs.declared.option.Option.{Option}
@@ -20,7 +20,7 @@ use Rattle.qpu_machine.specs.declared.state.Step.{Step}
 use Rattle.qpu_machine.specs.declared.state.Step.TheVariants.{Issue, Load, Store}
 use Rattle.qpu_machine.specs.MoveStep.{unmoved, loaded, load_move, stored, store_move}
 use Rattle.qpu_machine.specs.MachineState.{MachineState, stop_of, stop_at, are_idle, all_ended}
-use Rattle.qpu_machine.specs.MachineRun.{fault_after, turned, shifted, step_of, happens, machine_run, is_effective, effective_steps, IsIdle, IsGone, HasNothing}
+use Rattle.qpu_machine.specs.MachineRun.{fault_after, step_of, happens, machine_run, is_effective, effective_steps, IsIdle, IsGone, HasNothing}
 use Rattle.qpu_machine.specs.Schedules.{round, rounds_of}
 use Rattle.qpu_machine.proofs.Steps.{happens_goes, happens_idle, load_is, store_is}
 use Rattle.qpu_machine.proofs.Nothing.{nothing_where}

@@ -1,3 +1,4 @@
 pub mod Sharing
 pub mod Premises
 pub mod Laws
+pub mod Example

@@ -5,6 +5,10 @@
 
 ghost use Rattle.solo_law.specs.Laws.{EveryRunProjects, EveryRunIsBounded, NoRunIsStuck, RoundsFinish, OpeningsStart};
 ghost use Rattle.solo_law.specs.Sharing.{GroupsCommute};
+ghost use Rattle.solo_law.specs.Example.{ExampleFits, FilledExampleFits, ExampleStores};
+
+#[cfg(test)]
+mod tests;
 
 /// Let each QPU alone be clean and no two conflict. Then no run breaks a restriction; the places and
 /// transfers of each QPU are the first ones of its run alone; a finished run leaves of each byte what
@@ -38,4 +42,11 @@ pub fn law_groups()
 /// An opening of the machine is a start for the laws.
 pub fn law_opening()
     ensures { OpeningsStart }
+{}
+
+/// The premises of the laws hold of a program of three QPUs, each of which stores its number and 3.
+pub fn law_example()
+    ensures any { ExampleFits }
+    ensures filled { FilledExampleFits }
+    ensures stores { ExampleStores }
 {}
