@@ -1,0 +1,16 @@
+pub mod Closing
+pub mod Finding
+pub mod Fronts
+pub mod Digits
+pub mod LeftOut
+pub mod Longest
+pub mod Found
+pub mod NumberRight
+pub mod RunKinds
+pub mod Walks
+pub mod OnePiece
+pub mod Sayings
+pub mod FirstFaults
+pub mod Columns
+pub mod Listed
+pub mod LexedOnce

@@ -1,0 +1,9 @@
+pub mod Tables
+pub mod Characters
+pub mod Numerals
+pub mod SourceText
+pub mod Scanning
+pub mod Reading
+pub mod Walking
+pub mod LineColumn
+pub mod Laws
