@@ -1,6 +1,6 @@
 -- The writes of a machine's buffers, one after another.
-use Rattle.std.proofs.Common.{◌≡◌, ℕ, ◌+◌, ◌<◌, List, [], ◌∷◌, length, drop, get_or, refl, sym, ap, ◌∙◌, subst, arith}
-use Rattle.std.specs.Prelude.{IfSome, slice_get, map}
+use Rattle.std.proofs.Common.{◌≡◌, ℕ, ◌+◌, ◌<◌, List, length, drop, get_or, sym, ◌∙◌, subst, arith}
+use Rattle.std.specs.Prelude.{IfSome, slice_get}
 use Rattle.std.proofs.lemmas.Option.{slice_get-get_or}
 use Rattle.std.proofs.lemmas.List.{get_or-map, length-map}
 use Rattle.launch_file.specs.declared.launch.BufferLine.{BufferLine}
@@ -8,7 +8,8 @@ use Rattle.vpm_words.specs.declared.state.Region.{Region}
 use Rattle.qpu_machine.specs.Planned.{bytes_of, no_region}
 use Rattle.qpu_machine.specs.MachineState.{MachineState}
 use Rattle.vc4c_core.specs.Plan.{Plan}
-use Rattle.vc4c_core.specs.Buffers.{write_buffer, write_buffers, buffers_of}
+use Rattle.compile_pipe.specs.Faithful.{buffers_of}
+use Rattle.vc4c_core.specs.Buffers.{write_buffer, write_buffers}
 use Rattle.vc4c_core.proofs.Steps.{write_buffers_at}
 
 pub count_buffers : (s : MachineState) → length (buffers_of s) ≡ length s.fixed.buffers

@@ -5,7 +5,7 @@ use Rattle.q_io.specs.SinkMeaning.{SinkState, PutsAll}
 use Rattle.q_io.specs.declared.Put.{Put}
 use Rattle.q_io.specs.declared.Put.TheVariants.{Done as WasPut, Failed as PutFailed, Memory as PutShort}
 use Rattle.vc4c_core.specs.Lines.{Says, SaysTrouble, status_after}
-use Rattle.vc4c_core.specs.Plan.{Plan, reads, writes, commits, answers, Answer, done, bad_module, bad_launch, broken, unfinished, status_of, Ends, ReadTrouble, WriteTrouble}
+use Rattle.vc4c_core.specs.Plan.{Plan, reads, writes, compiles, commits, answers, Answer, done, refused, bad_module, bad_launch, broken, unfinished, status_of, Ends, ReadTrouble, WriteTrouble}
 use Rattle.vc4c_core.proofs.Causes.{EndCause}
 use Rattle.vc4c_core.specs.declared.status.Status.{Status}
 use Rattle.vc4c_core.specs.declared.status.Status.TheVariants.{Done, Memory, Usage, ReadFault, WriteFault, Missing, TooLong, Refused, BadModule, BadLaunch, Broken, Unfinished, NotSafe}
@@ -49,6 +49,7 @@ no_longer_asks asks before now out_before out_now NotSafe c = tt
 
 answer_caused : (asks : Bool) (before now : FilesState) (out_before out_now : SinkState) (answer : Answer) → EndCause asks before out_before now out_now (status_of answer)
 answer_caused asks before now out_before out_now done = tt
+answer_caused asks before now out_before out_now refused = tt
 answer_caused asks before now out_before out_now bad_module = tt
 answer_caused asks before now out_before out_now bad_launch = tt
 answer_caused asks before now out_before out_now broken = tt
@@ -93,6 +94,8 @@ ends_caused asks (writes name bytes next) before out_before now out_now result (
     write_caused asks before now out_before out_now name h.trouble result h.cause h.says
 ends_caused asks (writes name bytes next) before out_before now out_now result (inr (inr h)) =
     earlier asks before h.0 now out_before out_now result h.1.counts (ends_caused asks next h.0 out_before now out_now result h.2)
+ends_caused asks (compiles source kernel next) before out_before now out_now result (inl h) = gave_up asks before now out_before out_now result h.may h.is h.out
+ends_caused asks (compiles source kernel next) before out_before now out_now result (inr h) = ends_caused asks (next h.0) before out_before now out_now result h.3
 ends_caused asks (commits next) before out_before now out_now result (inl h) = gave_up asks before now out_before out_now result h.may h.is h.out
 ends_caused asks (commits next) before out_before now out_now result (inr h) =
     no_longer_asks asks before now out_before out_now result (ends_caused false next before out_before now out_now result h)

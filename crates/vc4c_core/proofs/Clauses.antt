@@ -1,14 +1,21 @@
 -- The clauses of the top call, from a run of the places.
 use Rattle.std.proofs.Common.{◌≡◌, ◌⊎◌, inl, inr, ℕ, Bool, true, false, cond, List, [], ◌∷◌, ◌++◌, refl, sym, ap, ◌∙◌, subst}
-use Rattle.std.specs.Prelude.{Option, Some, None, IfSome, bytes_eq}
+use Rattle.std.specs.Prelude.{Option, Some, None, IfSome, bytes_eq, ⊤}
 use Rattle.q_io.specs.Rose.{Rose}
 use Rattle.q_io.specs.FilesMeaning.{Tree, with_file, FilesState}
 use Rattle.q_io.specs.SinkMeaning.{SinkState, PutsAll}
 use Rattle.q_io.specs.declared.Put.{Put}
 use Rattle.q_io.specs.declared.Put.TheVariants.{Done as WasPut, Failed as PutFailed, Memory as PutShort}
+use Rattle.vc4q_module.specs.ModuleBytes.{ModuleOf}
 use Rattle.vc4c_core.specs.Lines.{Says, SaysTrouble, status_after}
-use Rattle.vc4c_core.specs.Plan.{Plan, Ends}
-use Rattle.vc4c_core.specs.Due.{Place, read, write, commit, Due, EndsAsDue, StoppedAt, IsQuiet, OnlyWrites, name_of, after, spares, due_of}
+use Rattle.vc4c_core.specs.Plan.{Plan, reads, writes, compiles, commits, answers, Ends}
+use Rattle.vc4c_core.specs.Due.{Place, read, write, compile, commit, Due, then_due, EndsAsDue, EndsAsMade, AnswersAsMade, OnlyWritesMade, StoppedAt, IsQuiet, OnlyWrites, name_of, after, spares, due_of}
+use Rattle.launch_file.specs.declared.launch.BufferLine.{BufferLine}
+use Rattle.launch_file.specs.Launches.{LaunchOf}
+use Rattle.qpu_machine.specs.MachineState.{MachineState}
+use Rattle.compile_pipe.specs.Faithful.{buffers_of}
+use Rattle.vc4c_core.specs.Buffers.{write_buffer, write_buffers}
+use Rattle.vc4c_core.specs.Play.{ran, report_plan, play_plan}
 use Rattle.vc4c_core.specs.Commands.{Runs, due_for, usage_line}
 use Rattle.vc4c_core.proofs.Causes.{EndCause}
 use Rattle.vc4c_core.proofs.EndsAsDue.{ends_as_due}
@@ -17,19 +24,19 @@ use Rattle.vc4c_core.specs.declared.status.Status.{Status}
 use Rattle.vc4c_core.specs.declared.status.Status.TheVariants.{Memory, Usage, ReadFault, WriteFault, Missing, TooLong}
 use Rattle.vc4c_core.specs.declared.places.Trouble.{Trouble}
 
-if_told : (told : Option Tree) (P : Tree → Type 0) → ((tree : Tree) → told ≡ Some tree → P tree) → IfSome told P
+pub if_told : (told : Option Tree) (P : Tree → Type 0) → ((tree : Tree) → told ≡ Some tree → P tree) → IfSome told P
 if_told None P h = tt
 if_told (Some tree) P h = h tree refl
 
 runs_due_at : (plan : Option Plan) (tree : Tree) (before : FilesState) (out_before : SinkState) (now : FilesState) (out_now : SinkState) (result : Status)
     → before.told ≡ Some tree → Runs plan before out_before now out_now result
-    → EndsAsDue true (due_for plan tree) tree before out_before now out_now result
-runs_due_at None tree before out_before now out_now result told h = inl (record { files = ap (λ f. f.told) h.0 ∙ told; says = h.1 })
+    → EndsAsMade true (due_for plan tree) tree before out_before now out_now result
+runs_due_at None tree before out_before now out_now result told h = ([], tt, inl (record { files = ap (λ f. f.told) h.0 ∙ told; says = h.1 }))
 runs_due_at (Some plan) tree before out_before now out_now result told h = ends_as_due true plan tree before out_before now out_now result told h
 
 pub runs_due : (plan : Option Plan) (before : FilesState) (out_before : SinkState) (now : FilesState) (out_now : SinkState) (result : Status)
     → Runs plan before out_before now out_now result
-    → IfSome before.told (λ tree. EndsAsDue true (due_for plan tree) tree before out_before now out_now result)
+    → IfSome before.told (λ tree. EndsAsMade true (due_for plan tree) tree before out_before now out_now result)
 runs_due plan before out_before now out_now result h = if_told before.told _ (λ tree told. runs_due_at plan tree before out_before now out_now result told h)
 
 -- the status after a line where the sink has no fault
@@ -48,6 +55,7 @@ fault_quiet (read place_name) tree before now out_before out_now name trouble re
     elim h.1 [ inl rose ↦ absurd (q.reads rose.1) | inr short ↦ (subst (λ t. SaysTrouble out_before out_now t name result) short.0 says).1 ]
 fault_quiet (write place_name bytes) tree before now out_before out_now name trouble result q h says =
     elim h.1 [ inl rose ↦ absurd (q.writes rose.1) | inr short ↦ (subst (λ t. SaysTrouble out_before out_now t name result) short.0 says).1 ]
+fault_quiet (compile source kernel code) tree before now out_before out_now name trouble result q h says = absurd h
 fault_quiet commit tree before now out_before out_now name trouble result q h says = absurd h
 
 due_quiet : (asks : Bool) (due : Due) (tree : Tree) (before : FilesState) (out_before : SinkState) (now : FilesState) (out_now : SinkState) (result : Status)
@@ -58,10 +66,11 @@ due_quiet asks due tree before out_before now out_now result (inr (inr h)) q = i
 
 pub runs_quiet : (plan : Option Plan) (before : FilesState) (out_before : SinkState) (now : FilesState) (out_now : SinkState) (result : Status)
     → Runs plan before out_before now out_now result
-    → IfSome before.told (λ tree. IsQuiet before out_before now out_now → (result ≡ (due_for plan tree).status) ⊎ (result ≡ Memory))
+    → IfSome before.told (λ tree. IsQuiet before out_before now out_now → AnswersAsMade (due_for plan tree) result)
 runs_quiet plan before out_before now out_now result h =
     if_told before.told _ (λ tree told quiet.
-    due_quiet true (due_for plan tree) tree before out_before now out_now result (runs_due_at plan tree before out_before now out_now result told h) quiet)
+    let ends = runs_due_at plan tree before out_before now out_now result told h in
+    (ends.0, ends.1, due_quiet true (due_for plan tree ends.0) tree before out_before now out_now result ends.2 quiet))
 
 -- Usage only where the words are of no form
 pub runs_usage : (plan : Option Plan) (before : FilesState) (out_before : SinkState) (now : FilesState) (out_now : SinkState) (result : Status) → Runs plan before out_before now out_now result → result ≡ Usage → plan ≡ None
@@ -156,6 +165,7 @@ after_spares [] tree name h = refl
 after_spares (read other ∷ places) tree name h = after_spares places tree name h
 after_spares (write other bytes ∷ places) tree name h =
     after_spares places (with_file other (Some bytes) tree) name (spares_rest (bytes_eq other name) (spares name places) h) ∙ spares_same (Some bytes) name other places tree h
+after_spares (compile source kernel code ∷ places) tree name h = after_spares places tree name h
 after_spares (commit ∷ places) tree name h = after_spares places tree name h
 
 -- what is spared by places is spared by the first of them
@@ -163,12 +173,14 @@ spares_first : (first rest : List Place) (name : List ℕ) → spares name (firs
 spares_first [] rest name h = refl
 spares_first (read other ∷ first) rest name h = spares_first first rest name h
 spares_first (write other bytes ∷ first) rest name h = spares_both (bytes_eq other name) _ _ (λ e. spares_first first rest name e) h
+spares_first (compile source kernel code ∷ first) rest name h = spares_first first rest name h
 spares_first (commit ∷ first) rest name h = spares_first first rest name h
 
 spares_last : (first rest : List Place) (name : List ℕ) → spares name (first ++ rest) ≡ true → spares name rest ≡ true
 spares_last [] rest name h = h
 spares_last (read other ∷ first) rest name h = spares_last first rest name h
 spares_last (write other bytes ∷ first) rest name h = spares_last first rest name (spares_rest (bytes_eq other name) (spares name (first ++ rest)) h)
+spares_last (compile source kernel code ∷ first) rest name h = spares_last first rest name h
 spares_last (commit ∷ first) rest name h = spares_last first rest name h
 
 stopped_spares : (place : Place) (passed rest : List Place) (tree : Tree) (before now : FilesState) (trouble : Trouble)
@@ -183,6 +195,7 @@ stopped_spares (write other bytes) passed rest tree before now trouble h = recor
   told = h.0.1;
   others = λ name spared. spares_same h.0.0 name other rest (after passed tree) (spares_last passed _ name spared) ∙ after_spares passed tree name (spares_first passed _ name spared);
 }
+stopped_spares (compile source kernel code) passed rest tree before now trouble h = absurd h
 stopped_spares commit passed rest tree before now trouble h = absurd h
 
 due_files : (asks : Bool) (due : Due) (tree : Tree) (before : FilesState) (out_before : SinkState) (now : FilesState) (out_now : SinkState) (result : Status)
@@ -199,15 +212,50 @@ due_files asks due tree before out_before now out_now result (inr (inr h)) = rec
 -- only the files that are due to be written may change
 pub runs_files : (plan : Option Plan) (before : FilesState) (out_before : SinkState) (now : FilesState) (out_now : SinkState) (result : Status)
     → Runs plan before out_before now out_now result
-    → IfSome before.told (λ tree. OnlyWrites (due_for plan tree).places tree now)
+    → IfSome before.told (λ tree. OnlyWritesMade (due_for plan tree) tree now)
 runs_files plan before out_before now out_now result h =
-    if_told before.told _ (λ tree told. due_files true (due_for plan tree) tree before out_before now out_now result (runs_due_at plan tree before out_before now out_now result told h))
+    if_told before.told _ (λ tree told.
+    let ends = runs_due_at plan tree before out_before now out_now result told h in
+    (ends.0, ends.1, due_files true (due_for plan tree ends.0) tree before out_before now out_now result ends.2))
 
--- the same of a plan, as of `play`
-pub plan_due : (asks : Bool) (plan : Plan) (before : FilesState) (out_before : SinkState) (now : FilesState) (out_now : SinkState) (result : Status)
-    → Ends asks plan before out_before now out_now result
-    → IfSome before.told (λ tree. EndsAsDue asks (due_of plan tree) tree before out_before now out_now result)
-plan_due asks plan before out_before now out_now result h = if_told before.told _ (λ tree told. ends_as_due asks plan tree before out_before now out_now result told h)
+-- a plan that only writes
+pub Stores : Plan → Type 0
+Stores (reads name limit next) = ⊥
+Stores (writes name bytes next) = Stores next
+Stores (compiles source kernel next) = ⊥
+Stores (commits next) = Stores next
+Stores (answers answer line) = ⊤
+
+-- it makes no module
+stores_due : (plan : Plan) (tree : Tree) (codes : List ModuleOf) → Stores plan → due_of plan tree codes ≡ due_of plan tree []
+unfolding Stores
+stores_due (reads name limit next) tree codes h = absurd h
+stores_due (writes name bytes next) tree codes h = ap (then_due (write name bytes)) (stores_due next (with_file name (Some bytes) tree) codes h)
+stores_due (compiles source kernel next) tree codes h = absurd h
+stores_due (commits next) tree codes h = ap (then_due commit) (stores_due next tree codes h)
+stores_due (answers answer line) tree codes h = refl
+
+write_stores : (size : ℕ) (from to : Option (List ℕ)) (bytes : List ℕ) (next : Plan) → Stores next → Stores (write_buffer (record { size = size; from = from; to = to }) bytes next)
+unfolding Stores
+write_stores size from None bytes next h = h
+write_stores size from (Some name) bytes next h = h
+
+writes_store : (lines : List BufferLine) (buffers : List (List ℕ)) (next : Plan) → Stores next → Stores (write_buffers lines buffers next)
+writes_store [] buffers next h = h
+writes_store (line ∷ lines) [] next h = h
+writes_store (line ∷ lines) (bytes ∷ buffers) next h = write_stores line.size line.from line.to bytes (write_buffers lines buffers next) (writes_store lines buffers next h)
+
+play_stores : (s : MachineState) (launch : LaunchOf) (file : List ℕ) → Stores (play_plan s launch file)
+unfolding Stores play_plan report_plan
+play_stores s launch file = writes_store launch.buffers (buffers_of (ran s launch.schedule file)) (report_plan (ran s launch.schedule file)) tt
+
+pub play_due : (s : MachineState) (launch : LaunchOf) (file : List ℕ) (before : FilesState) (out_before : SinkState) (now : FilesState) (out_now : SinkState) (result : Status)
+    → Ends false (play_plan s launch file) before out_before now out_now result
+    → IfSome before.told (λ tree. EndsAsDue false (due_of (play_plan s launch file) tree []) tree before out_before now out_now result)
+play_due s launch file before out_before now out_now result h =
+    if_told before.told _ (λ tree told.
+    let ends = ends_as_due false (play_plan s launch file) tree before out_before now out_now result told h in
+    subst (λ due. EndsAsDue false due tree before out_before now out_now result) (stores_due (play_plan s launch file) tree ends.0 (play_stores s launch file)) ends.2)
 
 pub record PlayCaused (before : FilesState) (out_before : SinkState) (now : FilesState) (out_now : SinkState) (result : Status) : Type 0 where
   pub memory : result ≡ Memory → Rose before.shortages now.shortages ⊎ Rose out_before.shortages out_now.shortages

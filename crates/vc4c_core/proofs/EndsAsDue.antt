@@ -3,14 +3,15 @@ use Rattle.std.proofs.Common.{◌≡◌, inl, inr, ℕ, ◌≤◌, ◌<◌, Bool
 use Rattle.std.specs.Prelude.{Option, Some, None, IfSome, option_map, nat_le}
 use Rattle.q_io.specs.FilesMeaning.{Tree, with_file, FilesState, FilesCountsStay}
 use Rattle.q_io.specs.SinkMeaning.{SinkState}
+use Rattle.vc4q_module.specs.ModuleBytes.{ModuleOf}
 use Rattle.vc4c_core.specs.Lines.{SaysTrouble}
-use Rattle.vc4c_core.specs.Plan.{Plan, reads, writes, commits, answers, Ends, GivesUp, StopsAtWrite, ReadTrouble, WriteTrouble}
-use Rattle.vc4c_core.specs.Due.{Place, read, write, commit, Due, then_due, trouble_due, due_read, due_of, StoppedAt, EndsAsDue}
+use Rattle.vc4c_core.specs.Plan.{Plan, reads, writes, compiles, commits, answers, Ends, GivesUp, StopsAtWrite, ReadTrouble, WriteTrouble}
+use Rattle.vc4c_core.specs.Due.{Place, read, write, compile, commit, Due, then_due, trouble_due, due_read, due_of, AreMade, StoppedAt, EndsAsDue, EndsAsMade}
 use Rattle.vc4c_core.specs.declared.status.Status.{Status}
 use Rattle.vc4c_core.specs.declared.places.Trouble.{Trouble}
 use Rattle.vc4c_core.specs.declared.places.Trouble.TheVariants.{Missing as IsMissing, TooLong as IsTooLong, ReadFault as IsReadFault, WriteFault as IsWriteFault, Memory as IsMemory}
 
-told_at : (told : Option Tree) (tree : Tree) (P : Tree → Type 0) → told ≡ Some tree → IfSome told P → P tree
+pub told_at : (told : Option Tree) (tree : Tree) (P : Tree → Type 0) → told ≡ Some tree → IfSome told P → P tree
 told_at told tree P e h = subst (λ t. IfSome t P) e h
 
 -- a fault at a place counts from an earlier moment too
@@ -19,6 +20,7 @@ earlier_fault (read name) tree first before now trouble counts stopped =
     (stopped.0, elim stopped.1 [ inl h ↦ inl (h.0, omega (arith, h.1)) | inr h ↦ inr (h.0, omega (arith, h.1)) ])
 earlier_fault (write name bytes) tree first before now trouble counts stopped =
     (stopped.0, elim stopped.1 [ inl h ↦ inl (h.0, omega (arith, h.1)) | inr h ↦ inr (h.0, omega (arith, h.1)) ])
+earlier_fault (compile source kernel code) tree first before now trouble counts stopped = stopped
 earlier_fault commit tree first before now trouble counts stopped = stopped
 
 passes_read : (asks : Bool) (name : List ℕ) (due : Due) (tree : Tree) (first before now : FilesState) (out_before out_now : SinkState) (result : Status)
@@ -75,7 +77,33 @@ passes_write asks name bytes due tree first before now out_before out_now result
       out = h.out;
     }))
 
--- from the run on memory isn't asked for
+passes_compile : (asks : Bool) (source kernel : List ℕ) (code : ModuleOf) (due : Due) (tree : Tree) (before now : FilesState) (out_before out_now : SinkState) (result : Status)
+    → EndsAsDue asks due tree before out_before now out_now result
+    → EndsAsDue asks (then_due (compile source kernel code) due) tree before out_before now out_now result
+passes_compile asks source kernel code due tree before now out_before out_now result (inl h) = inl (record { files = h.files; says = h.says })
+passes_compile asks source kernel code due tree before now out_before out_now result (inr (inl h)) =
+    inr (inl (record {
+      passed = compile source kernel code ∷ h.passed;
+      place = h.place;
+      rest = h.rest;
+      order = ap (λ ps. compile source kernel code ∷ ps) h.order;
+      trouble = h.trouble;
+      stopped = h.stopped;
+      says = h.says;
+    }))
+passes_compile asks source kernel code due tree before now out_before out_now result (inr (inr h)) =
+    inr (inr (record {
+      may = h.may;
+      is = h.is;
+      passed = compile source kernel code ∷ h.passed;
+      rest = h.rest;
+      order = ap (λ ps. compile source kernel code ∷ ps) h.order;
+      no_step = h.no_step;
+      files = h.files;
+      out = h.out;
+    }))
+
+-- from here on memory isn't asked for
 passes_commit : (asks : Bool) (due : Due) (tree : Tree) (before now : FilesState) (out_before out_now : SinkState) (result : Status)
     → EndsAsDue false due tree before out_before now out_now result
     → EndsAsDue asks (then_due commit due) tree before out_before now out_now result
@@ -124,7 +152,7 @@ le_false : (m n : ℕ) → n < m → nat_le m n ≡ false
 le_false m n h = search (rules, tests)
 
 -- what is due of a read that finds its file
-due_found : (name : List ℕ) (limit : ℕ) (content : Option (List ℕ)) (bytes : List ℕ) (next : List ℕ → Due) → content ≡ Some bytes → length bytes ≤ limit
+pub due_found : (name : List ℕ) (limit : ℕ) (content : Option (List ℕ)) (bytes : List ℕ) (next : List ℕ → Due) → content ≡ Some bytes → length bytes ≤ limit
     → due_read name limit content next ≡ then_due (read name) (next bytes)
 due_found name limit content bytes next e h =
     ap (λ c. due_read name limit c next) e ∙ ap (λ b. cond b (then_due (read name) (next bytes)) (trouble_due IsTooLong name)) (le_true _ _ h)
@@ -193,30 +221,65 @@ stops_at_write asks name bytes due tree before now out_before out_now result tol
       says = stop.says;
     }))
 
+-- where no module is given, no place makes one
+read_none_made : (name : List ℕ) (limit : ℕ) (content : Option (List ℕ)) (next : List ℕ → Due) → ((bytes : List ℕ) → AreMade (next bytes).places) → AreMade (due_read name limit content next).places
+read_none_made name limit None next h = tt
+read_none_made name limit (Some bytes) next h =
+    elim (nat_le (length bytes) limit) as (λ b. AreMade (cond b (then_due (read name) (next bytes)) (trouble_due IsTooLong name)).places) [ true ↦ h bytes | false ↦ tt ]
+
+none_made : (plan : Plan) (tree : Tree) → AreMade (due_of plan tree []).places
+none_made (reads name limit next) tree = read_none_made name limit (tree name) _ (λ bytes. none_made (next bytes) tree)
+none_made (writes name bytes next) tree = none_made next (with_file name (Some bytes) tree)
+none_made (compiles source kernel next) tree = tt
+none_made (commits next) tree = none_made next tree
+none_made (answers answer line) tree = tt
+
+-- a run that stops before a module is made
+stops : (asks : Bool) (plan : Plan) (tree : Tree) (before : FilesState) (out_before : SinkState) (now : FilesState) (out_now : SinkState) (result : Status)
+    → EndsAsDue asks (due_of plan tree []) tree before out_before now out_now result
+    → EndsAsMade asks (due_of plan tree) tree before out_before now out_now result
+stops asks plan tree before out_before now out_now result h = ([], none_made plan tree, h)
+
 pub ends_as_due : (asks : Bool) (plan : Plan) (tree : Tree) (before : FilesState) (out_before : SinkState) (now : FilesState) (out_now : SinkState) (result : Status)
     → before.told ≡ Some tree
     → Ends asks plan before out_before now out_now result
-    → EndsAsDue asks (due_of plan tree) tree before out_before now out_now result
-ends_as_due asks (reads name limit next) tree before out_before now out_now result told (inl h) = gives_up asks _ tree before now out_before out_now result told h
+    → EndsAsMade asks (due_of plan tree) tree before out_before now out_now result
+ends_as_due asks (reads name limit next) tree before out_before now out_now result told (inl h) =
+    stops asks (reads name limit next) tree before out_before now out_now result (gives_up asks _ tree before now out_before out_now result told h)
 ends_as_due asks (reads name limit next) tree before out_before now out_now result told (inr (inl h)) =
-    stops_at_read asks name limit _ tree before now out_before out_now result told h.files h.trouble h.cause h.says
+    stops asks (reads name limit next) tree before out_before now out_now result (stops_at_read asks name limit _ tree before now out_before out_now result told h.files h.trouble h.cause h.says)
 ends_as_due asks (reads name limit next) tree before out_before now out_now result told (inr (inr h)) =
     let bytes = h.0 in
     let mid = h.1 in
     let has_read = h.2 in
     let is : tree name ≡ Some bytes = told_at before.told tree (λ t. t name ≡ Some bytes) told has_read.holds in
     let rest = ends_as_due asks (next bytes) tree mid out_before now out_now result (has_read.files ∙ told) h.3 in
-    let found = due_found name limit (tree name) bytes (λ b. due_of (next b) tree) is has_read.fits in
-    subst (λ d. EndsAsDue asks d tree before out_before now out_now result) (sym found) (passes_read asks name _ tree before mid now out_before out_now result has_read.counts rest)
-ends_as_due asks (writes name bytes next) tree before out_before now out_now result told (inl h) = gives_up asks _ tree before now out_before out_now result told h
-ends_as_due asks (writes name bytes next) tree before out_before now out_now result told (inr (inl h)) = stops_at_write asks name bytes _ tree before now out_before out_now result told h
+    let codes : List ModuleOf = rest.0 in
+    let found = due_found name limit (tree name) bytes (λ b. due_of (next b) tree codes) is has_read.fits in (
+      codes,
+      subst (λ d. AreMade d.places) (sym found) rest.1,
+      subst (λ d. EndsAsDue asks d tree before out_before now out_now result) (sym found) (passes_read asks name _ tree before mid now out_before out_now result has_read.counts rest.2),
+    )
+ends_as_due asks (writes name bytes next) tree before out_before now out_now result told (inl h) =
+    stops asks (writes name bytes next) tree before out_before now out_now result (gives_up asks _ tree before now out_before out_now result told h)
+ends_as_due asks (writes name bytes next) tree before out_before now out_now result told (inr (inl h)) =
+    stops asks (writes name bytes next) tree before out_before now out_now result (stops_at_write asks name bytes _ tree before now out_before out_now result told h)
 ends_as_due asks (writes name bytes next) tree before out_before now out_now result told (inr (inr h)) =
     let mid = h.0 in
     let written = h.1 in
     let rest = ends_as_due asks next (with_file name (Some bytes) tree) mid out_before now out_now result (written.files ∙ ap (option_map (with_file name (Some bytes))) told) h.2 in
-    passes_write asks name bytes _ tree before mid now out_before out_now result written.counts rest
-ends_as_due asks (commits next) tree before out_before now out_now result told (inl h) = gives_up asks _ tree before now out_before out_now result told h
+    (rest.0, rest.1, passes_write asks name bytes _ tree before mid now out_before out_now result written.counts rest.2)
+ends_as_due asks (compiles source kernel next) tree before out_before now out_now result told (inl h) =
+    stops asks (compiles source kernel next) tree before out_before now out_now result (gives_up asks _ tree before now out_before out_now result told h)
+ends_as_due asks (compiles source kernel next) tree before out_before now out_now result told (inr h) =
+    let rest = ends_as_due asks (next h.0) tree before out_before now out_now result told h.3 in
+    (h.0 ∷ rest.0, (h.1, h.2, rest.1), passes_compile asks source kernel h.0 _ tree before now out_before out_now result rest.2)
+ends_as_due asks (commits next) tree before out_before now out_now result told (inl h) =
+    stops asks (commits next) tree before out_before now out_now result (gives_up asks _ tree before now out_before out_now result told h)
 ends_as_due asks (commits next) tree before out_before now out_now result told (inr h) =
-    passes_commit asks _ tree before now out_before out_now result (ends_as_due false next tree before out_before now out_now result told h)
-ends_as_due asks (answers answer line) tree before out_before now out_now result told (inl h) = gives_up asks _ tree before now out_before out_now result told h
-ends_as_due asks (answers answer line) tree before out_before now out_now result told (inr h) = inl (record { files = ap (λ f. f.told) h.0 ∙ told; says = h.1 })
+    let rest = ends_as_due false next tree before out_before now out_now result told h in
+    (rest.0, rest.1, passes_commit asks _ tree before now out_before out_now result rest.2)
+ends_as_due asks (answers answer line) tree before out_before now out_now result told (inl h) =
+    stops asks (answers answer line) tree before out_before now out_now result (gives_up asks _ tree before now out_before out_now result told h)
+ends_as_due asks (answers answer line) tree before out_before now out_now result told (inr h) =
+    ([], tt, inl (record { files = ap (λ f. f.told) h.0 ∙ told; says = h.1 }))

@@ -1,20 +1,19 @@
 -- What `exec` has done where it ends with its answer.
-use Rattle.std.proofs.Common.{◌≡◌, ◌⊎◌, inl, inr, ℕ, ◌<◌, Bool, true, false, cond, List, [], ◌∷◌, ◌++◌, length, get_or, refl, sym, ap, ◌∙◌, subst, append_assoc, append-nil}
+use Rattle.std.proofs.Common.{◌≡◌, ◌≢◌, ◌⊎◌, inl, inr, ℕ, ◌<◌, Bool, true, false, cond, List, [], ◌∷◌, ◌++◌, get_or, refl, sym, ap, ◌∙◌, subst, append_assoc, append-nil}
 use Rattle.std.specs.Prelude.{Option, Some, None, option_map, bytes_eq, codes, ⊤}
 use Rattle.std.specs.List.{All}
 use Rattle.std.proofs.lemmas.Slice.Eq.{bytes_eq-Decides}
-use Rattle.q_io.specs.FilesMeaning.{Tree, with_file, FilesState, Holds}
+use Rattle.q_io.specs.FilesMeaning.{Tree, FilesState, Holds}
 use Rattle.q_io.specs.SinkMeaning.{SinkState, Gains, PutsAll}
 use Rattle.q_io.specs.declared.Put.{Put}
 use Rattle.q_io.specs.declared.Put.TheVariants.{Done as WasPut, Failed as PutFailed, Memory as PutShort}
 use Rattle.launch_file.specs.declared.launch.BufferLine.{BufferLine}
 use Rattle.launch_file.specs.declared.launch.Schedule.{Schedule}
 use Rattle.launch_file.specs.declared.launch.Schedule.TheVariants.{Rounds, Seed, File}
-use Rattle.launch_file.specs.Launches.{LaunchOf}
 use Rattle.launch_file.specs.LaunchIn.{launch_in}
 use Rattle.launch_file.specs.Rules.{first_fault as launch_fault}
 use Rattle.launch_file.specs.Fit.{FaultAt, fit_fault}
-use Rattle.vc4q_module.specs.ModuleBytes.{ModuleOf, IsModule, module_bytes, module_in, first_fault as module_fault}
+use Rattle.vc4q_module.specs.ModuleBytes.{ModuleOf, module_in, first_fault as module_fault}
 use Rattle.vc4q_module.proofs.ModuleLaws.{module_in-bytes}
 use Rattle.vc4q_module.proofs.Faults.{passing_spells, spellings_pass}
 use Rattle.std.proofs.lemmas.List.{get_or_default}
@@ -25,11 +24,11 @@ use Rattle.vc4c_core.proofs.LaunchValid.{launch_of_text}
 use Rattle.vc4c_core.specs.Lines.{Says, SaysTrouble, status_after}
 use Rattle.vc4c_core.specs.Plan.{Plan, Ends, HasRead, status_of}
 use Rattle.vc4c_core.specs.Report.{report}
-use Rattle.vc4c_core.specs.Buffers.{filled, read_buffer, read_buffers, write_buffer, write_buffers, buffers_of}
-use Rattle.vc4c_core.specs.Openings.{opening_for}
-use Rattle.vc4c_core.specs.Play.{answer_of, ran, report_plan, play_plan}
-use Rattle.vc4c_core.specs.Exec.{exec_plan, module_plan, after_module, launch_plan, after_launch, fit_plan, after_fit, schedule_plan, buffers_plan, ready_plan, read_schedule, module_limit, launch_limit, module_line, launch_line}
-use Rattle.vc4c_core.specs.ExecClauses.{IsRunStatus, IsRead, AreRead, IsScheduleFile, stored_one, stored, run_of, IsFaultOf, Executed, RefusedModule, RefusedLaunch, ExecAnswers}
+use Rattle.compile_pipe.specs.Faithful.{buffers_of}
+use Rattle.vc4c_core.specs.Buffers.{filled, read_buffer, read_buffers, write_buffer, write_buffers}
+use Rattle.vc4c_core.specs.Play.{answer_of, report_plan, play_plan}
+use Rattle.vc4c_core.specs.Exec.{exec_plan, module_plan, after_module, launch_plan, after_launch, fit_plan, after_fit, schedule_plan, buffers_plan, ready_plan, read_schedule, module_limit, module_line, launch_line}
+use Rattle.vc4c_core.specs.ExecClauses.{IsRunStatus, IsRead, AreRead, IsScheduleFile, stored_one, stored, run_of, IsFaultOf, IsReadModule, Executed, RefusedModule, RefusedLaunch, ExecAnswers}
 use Rattle.vc4c_core.specs.Commands.{plan_of, Runs, IfExec}
 use Rattle.vc4c_core.specs.declared.status.Status.{Status}
 use Rattle.vc4c_core.specs.declared.status.Status.TheVariants.{Done, Memory, Usage, ReadFault, WriteFault, Missing, TooLong, Refused, BadModule, BadLaunch, Broken, Unfinished, NotSafe}
@@ -37,7 +36,7 @@ use Rattle.vc4c_core.specs.declared.places.Trouble.{Trouble}
 use Rattle.vc4c_core.specs.declared.places.Trouble.TheVariants.{Missing as IsMissing, TooLong as IsTooLong, ReadFault as IsReadFault, WriteFault as IsWriteFault, Memory as IsMemory}
 
 -- the answers of the outside
-IsOutside : Status → Type 0
+unfoldable pub IsOutside : Status → Type 0
 IsOutside Memory = ⊤
 IsOutside ReadFault = ⊤
 IsOutside WriteFault = ⊤
@@ -52,23 +51,22 @@ IsOutside Broken = ⊥
 IsOutside Unfinished = ⊥
 IsOutside NotSafe = ⊥
 
--- how `exec` ends
-data ExecEnd (module_name launch_name : List ℕ) (before : FilesState) (out_before : SinkState) (now : FilesState) (out_now : SinkState) (result : Status) : Type 0 where
-  outside : IsOutside result → ExecEnd module_name launch_name before out_before now out_now result
-  no_module : result ≡ BadModule → RefusedModule module_name before out_before now out_now → ExecEnd module_name launch_name before out_before now out_now result
-  no_launch : result ≡ BadLaunch → RefusedLaunch module_name launch_name before out_before now out_now → ExecEnd module_name launch_name before out_before now out_now result
-  executed : Executed module_name launch_name before out_before now out_now result → ExecEnd module_name launch_name before out_before now out_now result
+-- how a command ends from the read of its launch on
+pub data LaunchEnd (code : ModuleOf) (taken : List (List ℕ)) (launch_name : List ℕ) (before : FilesState) (out_before : SinkState) (now : FilesState) (out_now : SinkState) (result : Status) : Type 0 where
+  outside : IsOutside result → LaunchEnd code taken launch_name before out_before now out_now result
+  no_launch : result ≡ BadLaunch → RefusedLaunch code taken launch_name before out_before now out_now → LaunchEnd code taken launch_name before out_before now out_now result
+  executed : Executed code taken launch_name before out_before now out_now result → LaunchEnd code taken launch_name before out_before now out_now result
 
-put_cases : (before now : SinkState) (line : List ℕ) (status result : Status) (put : Put) → PutsAll before now line put → result ≡ status_after put status → IsOutside result ⊎ ((result ≡ status) × Gains before now line)
+pub put_cases : (before now : SinkState) (line : List ℕ) (status result : Status) (put : Put) → PutsAll before now line put → result ≡ status_after put status → IsOutside result ⊎ ((result ≡ status) × Gains before now line)
 unfolding IsOutside
 put_cases before now line status result WasPut taken e = inr (e, taken)
 put_cases before now line status result PutFailed taken e = inl (subst IsOutside (sym e) tt)
 put_cases before now line status result PutShort taken e = inl (subst IsOutside (sym e) tt)
 
-says_cases : (before now : SinkState) (line : List ℕ) (status result : Status) → Says before now line status result → IsOutside result ⊎ ((result ≡ status) × Gains before now line)
+pub says_cases : (before now : SinkState) (line : List ℕ) (status result : Status) → Says before now line status result → IsOutside result ⊎ ((result ≡ status) × Gains before now line)
 says_cases before now line status result says = put_cases before now line status result says.put says.taken says.is
 
-short_outside : (result : Status) → result ≡ Memory → IsOutside result
+pub short_outside : (result : Status) → result ≡ Memory → IsOutside result
 unfolding IsOutside
 short_outside result e = subst IsOutside (sym e) tt
 
@@ -76,7 +74,7 @@ line_outside : (before now : SinkState) (line : List ℕ) (status result : Statu
 line_outside before now line status result says h =
     elim (says_cases before now line status result says) [ inl other ↦ other | inr same ↦ subst IsOutside (sym same.0) h ]
 
-says_outside : (before now : SinkState) (name : List ℕ) (trouble : Trouble) (result : Status) → SaysTrouble before now trouble name result → IsOutside result
+pub says_outside : (before now : SinkState) (name : List ℕ) (trouble : Trouble) (result : Status) → SaysTrouble before now trouble name result → IsOutside result
 unfolding IsOutside
 says_outside before now name IsMissing result says = line_outside before now _ Missing result says tt
 says_outside before now name IsTooLong result says = line_outside before now _ TooLong result says tt
@@ -84,7 +82,7 @@ says_outside before now name IsReadFault result says = line_outside before now _
 says_outside before now name IsWriteFault result says = line_outside before now _ WriteFault result says tt
 says_outside before now name IsMemory result says = short_outside result says.1
 
-holds_earlier : (before mid : FilesState) (name bytes : List ℕ) → mid.told ≡ before.told → Holds mid name bytes → Holds before name bytes
+pub holds_earlier : (before mid : FilesState) (name bytes : List ℕ) → mid.told ≡ before.told → Holds mid name bytes → Holds before name bytes
 holds_earlier before mid name bytes e h = subst (λ told. Holds (record before { told = told }) name bytes) e h
 
 -- ---- what was read before the run
@@ -101,7 +99,7 @@ buffer_end size None to next before mid now out_before out_now result same h = i
 buffer_end size (Some name) to next before mid now out_before out_now result same (inl h) = inl (short_outside result h.is)
 buffer_end size (Some name) to next before mid now out_before out_now result same (inr (inl h)) = inl (says_outside out_before out_now _ h.trouble result h.says)
 buffer_end size (Some name) to next before mid now out_before out_now result same (inr (inr (bytes, last, read, ends))) =
-    inr (filled size bytes, last, read.files ∙ same, (bytes, holds_earlier before mid name bytes same read.holds, read.fits, refl), ends)
+    inr (filled size bytes, last, read.files ∙ same, (bytes, holds_earlier before mid name bytes same read.holds, read.fits, read.are_bytes, refl), ends)
 
 abbrev BuffersEnd : FilesState → List BufferLine → List (List ℕ) → (List (List ℕ) → Plan) → SinkState → FilesState → SinkState → Status → Type 0
 BuffersEnd before lines got next out_before now out_now result =
@@ -168,34 +166,25 @@ stores_end (line ∷ lines) (bytes ∷ buffers) next before now out_before out_n
       ]
     ]
 
--- ---- the ends of `exec`
+-- ---- the ends from the launch on
 
--- a launch that fits, and all that was read for it
-record Given (module_name launch_name : List ℕ) (before : FilesState) (code : ModuleOf) (text : List ℕ) : Type 0 where
-  module_is : IsModule code
-  module_file : Holds before module_name (module_bytes code)
-  launch_file : Holds before launch_name text
-
-report_end : (module_name launch_name : List ℕ) (code : ModuleOf) (text file : List ℕ) (buffers : List (List ℕ)) (before mid last now : FilesState) (out_before out_now : SinkState) (result : Status)
-    → Given module_name launch_name before code text → launch_fault text ≡ None → fit_fault (launch_in text) code.kinds (module_name ∷ launch_name ∷ []) ≡ None
+report_end : (code : ModuleOf) (taken : List (List ℕ)) (launch_name text file : List ℕ) (buffers : List (List ℕ)) (before mid last now : FilesState) (out_before out_now : SinkState) (result : Status)
+    → Holds before launch_name text → launch_fault text ≡ None → fit_fault (launch_in text) code.kinds taken ≡ None
     → IsScheduleFile before (launch_in text).schedule file → AreRead before (launch_in text).buffers buffers
     → mid.told ≡ before.told → last.told ≡ option_map (stored (launch_in text).buffers (buffers_of (run_of code (launch_in text) buffers file))) mid.told
     → Ends false (report_plan (run_of code (launch_in text) buffers file)) last out_before now out_now result
-    → ExecEnd module_name launch_name before out_before now out_now result
+    → LaunchEnd code taken launch_name before out_before now out_now result
 unfolding report_plan
-report_end module_name launch_name code text file buffers before mid last now out_before out_now result given none fits schedule contents same told (inl h) = outside (short_outside result h.is)
-report_end module_name launch_name code text file buffers before mid last now out_before out_now result given none fits schedule contents same told (inr (kept, says)) =
+report_end code taken launch_name text file buffers before mid last now out_before out_now result holds none fits schedule contents same told (inl h) = outside (short_outside result h.is)
+report_end code taken launch_name text file buffers before mid last now out_before out_now result holds none fits schedule contents same told (inr (kept, says)) =
     let r : MachineState = run_of code (launch_in text) buffers file in
     elim (says_cases out_before out_now (report r) (status_of (answer_of (stop_of r))) result says) [
       | inl h ↦ outside h
       | inr h ↦ executed (record {
-        code = code;
         text = text;
         file = file;
         buffers = buffers;
-        module_is = given.module_is;
-        module_file = given.module_file;
-        launch_file = given.launch_file;
+        launch_file = holds;
         launch_is = (launch_of_text text none).0;
         spelling = (launch_of_text text none).1;
         no_fault = none;
@@ -208,98 +197,100 @@ report_end module_name launch_name code text file buffers before mid last now ou
       })
     ]
 
-ready_end : (module_name launch_name : List ℕ) (code : ModuleOf) (text file : List ℕ) (buffers : List (List ℕ)) (before mid now : FilesState) (out_before out_now : SinkState) (result : Status)
-    → Given module_name launch_name before code text → launch_fault text ≡ None → fit_fault (launch_in text) code.kinds (module_name ∷ launch_name ∷ []) ≡ None
+ready_end : (code : ModuleOf) (taken : List (List ℕ)) (launch_name text file : List ℕ) (buffers : List (List ℕ)) (before mid now : FilesState) (out_before out_now : SinkState) (result : Status)
+    → Holds before launch_name text → launch_fault text ≡ None → fit_fault (launch_in text) code.kinds taken ≡ None
     → IsScheduleFile before (launch_in text).schedule file → AreRead before (launch_in text).buffers buffers → mid.told ≡ before.told
     → Ends true (ready_plan code (launch_in text) file buffers) mid out_before now out_now result
-    → ExecEnd module_name launch_name before out_before now out_now result
+    → LaunchEnd code taken launch_name before out_before now out_now result
 unfolding play_plan
-ready_end module_name launch_name code text file buffers before mid now out_before out_now result given none fits schedule contents same (inl h) = outside (short_outside result h.is)
-ready_end module_name launch_name code text file buffers before mid now out_before out_now result given none fits schedule contents same (inr h) =
+ready_end code taken launch_name text file buffers before mid now out_before out_now result holds none fits schedule contents same (inl h) = outside (short_outside result h.is)
+ready_end code taken launch_name text file buffers before mid now out_before out_now result holds none fits schedule contents same (inr h) =
     let r : MachineState = run_of code (launch_in text) buffers file in
     elim (stores_end (launch_in text).buffers (buffers_of r) (report_plan r) mid now out_before out_now result h) [
       | inl out ↦ outside out
-      | inr (last, told, ends) ↦ report_end module_name launch_name code text file buffers before mid last now out_before out_now result given none fits schedule contents same told ends
+      | inr (last, told, ends) ↦ report_end code taken launch_name text file buffers before mid last now out_before out_now result holds none fits schedule contents same told ends
     ]
 
-fitting_end : (module_name launch_name : List ℕ) (code : ModuleOf) (text : List ℕ) (before mid now : FilesState) (out_before out_now : SinkState) (result : Status)
-    → Given module_name launch_name before code text → launch_fault text ≡ None → fit_fault (launch_in text) code.kinds (module_name ∷ launch_name ∷ []) ≡ None → mid.told ≡ before.told
+fitting_end : (code : ModuleOf) (taken : List (List ℕ)) (launch_name text : List ℕ) (before mid now : FilesState) (out_before out_now : SinkState) (result : Status)
+    → Holds before launch_name text → launch_fault text ≡ None → fit_fault (launch_in text) code.kinds taken ≡ None → mid.told ≡ before.told
     → Ends true (schedule_plan code (launch_in text)) mid out_before now out_now result
-    → ExecEnd module_name launch_name before out_before now out_now result
+    → LaunchEnd code taken launch_name before out_before now out_now result
 unfolding schedule_plan buffers_plan
-fitting_end module_name launch_name code text before mid now out_before out_now result given none fits same h =
+fitting_end code taken launch_name text before mid now out_before out_now result holds none fits same h =
     elim (schedule_end (launch_in text).schedule (buffers_plan code (launch_in text)) before mid now out_before out_now result same h) [
       | inl out ↦ outside out
       | inr (file, later, told, schedule, ends) ↦ elim (buffers_end (launch_in text).buffers [] (ready_plan code (launch_in text) file) before later now out_before out_now result told ends) [
         | inl out ↦ outside out
-        | inr (buffers, last, told_last, contents, rest) ↦ ready_end module_name launch_name code text file buffers before last now out_before out_now result given none fits schedule contents told_last rest
+        | inr (buffers, last, told_last, contents, rest) ↦ ready_end code taken launch_name text file buffers before last now out_before out_now result holds none fits schedule contents told_last rest
       ]
     ]
 
 -- a launch that violates a rule
-refused_end : (module_name launch_name : List ℕ) (code : ModuleOf) (text : List ℕ) (rule at : ℕ) (before mid now : FilesState) (out_before out_now : SinkState) (result : Status)
-    → Given module_name launch_name before code text → IsFaultOf text code.kinds (module_name ∷ launch_name ∷ []) rule at → mid.told ≡ before.told
+refused_end : (code : ModuleOf) (taken : List (List ℕ)) (launch_name text : List ℕ) (rule at : ℕ) (before mid now : FilesState) (out_before out_now : SinkState) (result : Status)
+    → Holds before launch_name text → IsFaultOf text code.kinds taken rule at → mid.told ≡ before.told
     → now ≡ mid → Says out_before out_now (launch_line rule at) BadLaunch result
-    → ExecEnd module_name launch_name before out_before now out_now result
-refused_end module_name launch_name code text rule at before mid now out_before out_now result given fault same kept says =
+    → LaunchEnd code taken launch_name before out_before now out_now result
+refused_end code taken launch_name text rule at before mid now out_before out_now result holds fault same kept says =
     elim (says_cases out_before out_now (launch_line rule at) BadLaunch result says) [
       | inl h ↦ outside h
       | inr h ↦ no_launch h.0 (record {
-        code = code;
         text = text;
         rule = rule;
         at = at;
-        module_is = given.module_is;
-        module_file = given.module_file;
-        read = given.launch_file;
+        read = holds;
         fault = fault;
         files = ap (λ f. f.told) kept ∙ same;
         line = h.1;
       })
     ]
 
-fit_end : (module_name launch_name : List ℕ) (code : ModuleOf) (text : List ℕ) (fault : Option FaultAt) (before mid now : FilesState) (out_before out_now : SinkState) (result : Status)
-    → Given module_name launch_name before code text → launch_fault text ≡ None → fit_fault (launch_in text) code.kinds (module_name ∷ launch_name ∷ []) ≡ fault → mid.told ≡ before.told
+fit_end : (code : ModuleOf) (taken : List (List ℕ)) (launch_name text : List ℕ) (fault : Option FaultAt) (before mid now : FilesState) (out_before out_now : SinkState) (result : Status)
+    → Holds before launch_name text → launch_fault text ≡ None → fit_fault (launch_in text) code.kinds taken ≡ fault → mid.told ≡ before.told
     → Ends true (after_fit fault code (launch_in text)) mid out_before now out_now result
-    → ExecEnd module_name launch_name before out_before now out_now result
-fit_end module_name launch_name code text None before mid now out_before out_now result given none is same h = fitting_end module_name launch_name code text before mid now out_before out_now result given none is same h
-fit_end module_name launch_name code text (Some fault) before mid now out_before out_now result given none is same (inl h) = outside (short_outside result h.is)
-fit_end module_name launch_name code text (Some fault) before mid now out_before out_now result given none is same (inr h) =
-    refused_end module_name launch_name code text fault.rule fault.line before mid now out_before out_now result given (inr (none, is)) same h.0 h.1
+    → LaunchEnd code taken launch_name before out_before now out_now result
+fit_end code taken launch_name text None before mid now out_before out_now result holds none is same h = fitting_end code taken launch_name text before mid now out_before out_now result holds none is same h
+fit_end code taken launch_name text (Some fault) before mid now out_before out_now result holds none is same (inl h) = outside (short_outside result h.is)
+fit_end code taken launch_name text (Some fault) before mid now out_before out_now result holds none is same (inr h) =
+    refused_end code taken launch_name text fault.rule fault.line before mid now out_before out_now result holds (inr (none, is)) same h.0 h.1
 
-text_end : (module_name launch_name : List ℕ) (code : ModuleOf) (text : List ℕ) (fault : Option (ℕ × ℕ)) (before mid now : FilesState) (out_before out_now : SinkState) (result : Status)
-    → Given module_name launch_name before code text → launch_fault text ≡ fault → mid.told ≡ before.told
-    → Ends true (after_launch fault (module_name ∷ launch_name ∷ []) code (launch_in text)) mid out_before now out_now result
-    → ExecEnd module_name launch_name before out_before now out_now result
+text_end : (code : ModuleOf) (taken : List (List ℕ)) (launch_name text : List ℕ) (fault : Option (ℕ × ℕ)) (before mid now : FilesState) (out_before out_now : SinkState) (result : Status)
+    → Holds before launch_name text → launch_fault text ≡ fault → mid.told ≡ before.told
+    → Ends true (after_launch fault taken code (launch_in text)) mid out_before now out_now result
+    → LaunchEnd code taken launch_name before out_before now out_now result
 unfolding fit_plan
-text_end module_name launch_name code text None before mid now out_before out_now result given is same h =
-    fit_end module_name launch_name code text (fit_fault (launch_in text) code.kinds (module_name ∷ launch_name ∷ [])) before mid now out_before out_now result given is refl same h
-text_end module_name launch_name code text (Some fault) before mid now out_before out_now result given is same (inl h) = outside (short_outside result h.is)
-text_end module_name launch_name code text (Some fault) before mid now out_before out_now result given is same (inr h) =
-    refused_end module_name launch_name code text fault.0 fault.1 before mid now out_before out_now result given (inl is) same h.0 h.1
+text_end code taken launch_name text None before mid now out_before out_now result holds is same h =
+    fit_end code taken launch_name text (fit_fault (launch_in text) code.kinds taken) before mid now out_before out_now result holds is refl same h
+text_end code taken launch_name text (Some fault) before mid now out_before out_now result holds is same (inl h) = outside (short_outside result h.is)
+text_end code taken launch_name text (Some fault) before mid now out_before out_now result holds is same (inr h) =
+    refused_end code taken launch_name text fault.0 fault.1 before mid now out_before out_now result holds (inl is) same h.0 h.1
 
-launch_end : (module_name launch_name : List ℕ) (code : ModuleOf) (before mid now : FilesState) (out_before out_now : SinkState) (result : Status)
-    → IsModule code → Holds before module_name (module_bytes code) → mid.told ≡ before.told
-    → Ends true (launch_plan (module_name ∷ launch_name ∷ []) code launch_name) mid out_before now out_now result
-    → ExecEnd module_name launch_name before out_before now out_now result
+pub launch_end : (code : ModuleOf) (taken : List (List ℕ)) (launch_name : List ℕ) (before mid now : FilesState) (out_before out_now : SinkState) (result : Status)
+    → mid.told ≡ before.told → Ends true (launch_plan taken code launch_name) mid out_before now out_now result
+    → LaunchEnd code taken launch_name before out_before now out_now result
 unfolding launch_plan
-launch_end module_name launch_name code before mid now out_before out_now result valid holds same (inl h) = outside (short_outside result h.is)
-launch_end module_name launch_name code before mid now out_before out_now result valid holds same (inr (inl h)) = outside (says_outside out_before out_now _ h.trouble result h.says)
-launch_end module_name launch_name code before mid now out_before out_now result valid holds same (inr (inr (text, last, read, ends))) =
-    let given : Given module_name launch_name before code text = record { module_is = valid; module_file = holds; launch_file = holds_earlier before mid launch_name text same read.holds } in
-    text_end module_name launch_name code text (launch_fault text) before last now out_before out_now result given refl (read.files ∙ same) ends
+launch_end code taken launch_name before mid now out_before out_now result same (inl h) = outside (short_outside result h.is)
+launch_end code taken launch_name before mid now out_before out_now result same (inr (inl h)) = outside (says_outside out_before out_now _ h.trouble result h.says)
+launch_end code taken launch_name before mid now out_before out_now result same (inr (inr (text, last, read, ends))) =
+    text_end code taken launch_name text (launch_fault text) before last now out_before out_now result (holds_earlier before mid launch_name text same read.holds) refl (read.files ∙ same) ends
 
-all_bytes : (bytes : List ℕ) → ((i : ℕ) → get_or bytes i 0 < 256) → All (λ b. b < 256) bytes
+-- ---- the ends of `exec`
+
+data ExecEnd (module_name launch_name : List ℕ) (before : FilesState) (out_before : SinkState) (now : FilesState) (out_now : SinkState) (result : Status) : Type 0 where
+  unread : IsOutside result → ExecEnd module_name launch_name before out_before now out_now result
+  no_module : result ≡ BadModule → RefusedModule module_name before out_before now out_now → ExecEnd module_name launch_name before out_before now out_now result
+  read_module : (code : ModuleOf) → IsReadModule module_name before code → LaunchEnd code (module_name ∷ launch_name ∷ []) launch_name before out_before now out_now result → ExecEnd module_name launch_name before out_before now out_now result
+
+pub all_bytes : (bytes : List ℕ) → ((i : ℕ) → get_or bytes i 0 < 256) → All (λ b. b < 256) bytes
 all_bytes bytes h = λ k d within. subst (λ (b : ℕ). b < 256) (get_or_default bytes k 0 d within) (h k)
 
 module_end : (module_name launch_name bytes : List ℕ) (fault : Option ℕ) (before mid now : FilesState) (out_before out_now : SinkState) (result : Status)
     → HasRead before mid module_name module_limit bytes → module_fault bytes ≡ fault
     → Ends true (after_module fault (module_name ∷ launch_name ∷ []) (module_in bytes) launch_name) mid out_before now out_now result
     → ExecEnd module_name launch_name before out_before now out_now result
-module_end module_name launch_name bytes (Some place) before mid now out_before out_now result read is (inl h) = outside (short_outside result h.is)
+module_end module_name launch_name bytes (Some place) before mid now out_before out_now result read is (inl h) = unread (short_outside result h.is)
 module_end module_name launch_name bytes (Some place) before mid now out_before out_now result read is (inr (same, says)) =
     elim (says_cases out_before out_now (module_line place) BadModule result says) [
-      | inl h ↦ outside h
+      | inl h ↦ unread h
       | inr h ↦ no_module h.0 (record {
         bytes = bytes;
         place = place;
@@ -316,13 +307,14 @@ module_end module_name launch_name bytes None before mid now out_before out_now 
     let known : module_in bytes ≡ code = ap module_in spelled.1.1 ∙ module_in-bytes code spelled.1.0 in
     let ends : Ends true (launch_plan (module_name ∷ launch_name ∷ []) code launch_name) mid out_before now out_now result =
     subst (λ m. Ends true (launch_plan (module_name ∷ launch_name ∷ []) m launch_name) mid out_before now out_now result) known h in
-    launch_end module_name launch_name code before mid now out_before out_now result spelled.1.0 (subst (Holds before module_name) spelled.1.1 read.holds) read.files ends
+    read_module code (record { valid = spelled.1.0; file = subst (Holds before module_name) spelled.1.1 read.holds })
+    (launch_end code (module_name ∷ launch_name ∷ []) launch_name before mid now out_before out_now result read.files ends)
 
 exec_end : (module_name launch_name : List ℕ) (before now : FilesState) (out_before out_now : SinkState) (result : Status)
     → Ends true (exec_plan module_name launch_name) before out_before now out_now result → ExecEnd module_name launch_name before out_before now out_now result
 unfolding exec_plan module_plan
-exec_end module_name launch_name before now out_before out_now result (inl h) = outside (short_outside result h.is)
-exec_end module_name launch_name before now out_before out_now result (inr (inl h)) = outside (says_outside out_before out_now _ h.trouble result h.says)
+exec_end module_name launch_name before now out_before out_now result (inl h) = unread (short_outside result h.is)
+exec_end module_name launch_name before now out_before out_now result (inr (inl h)) = unread (says_outside out_before out_now _ h.trouble result h.says)
 exec_end module_name launch_name before now out_before out_now result (inr (inr (bytes, mid, read, ends))) =
     module_end module_name launch_name bytes (module_fault bytes) before mid now out_before out_now result read refl ends
 
@@ -358,9 +350,38 @@ stop_is_run (stop.Broken rule k place) = tt
 no_run : (s : Stop) (result other : Status) → result ≡ status_of (answer_of s) → result ≡ other → (IsRunStatus other → ⊥) → ⊥
 no_run s result other e f hm = hm (subst IsRunStatus (sym e ∙ f) (stop_is_run s))
 
+-- what each answer says from the launch on
+pub record LaunchAnswers (code : ModuleOf) (taken : List (List ℕ)) (launch_name : List ℕ) (before : FilesState) (out_before : SinkState) (now : FilesState) (out_now : SinkState) (result : Status) : Type 0 where
+  pub run : IsRunStatus result → Executed code taken launch_name before out_before now out_now result
+  pub bad_launch : result ≡ BadLaunch → RefusedLaunch code taken launch_name before out_before now out_now
+  pub module_good : result ≢ BadModule
+  pub source_good : result ≢ Refused
+
+pub launch_answers : (code : ModuleOf) (taken : List (List ℕ)) (launch_name : List ℕ) (before now : FilesState) (out_before out_now : SinkState) (result : Status)
+    → LaunchEnd code taken launch_name before out_before now out_now result → LaunchAnswers code taken launch_name before out_before now out_now result
+unfolding IsOutside
+launch_answers code taken launch_name before now out_before out_now result (outside h) = record {
+  run = λ r. absurd (outside_no_run result h r);
+  bad_launch = λ e. absurd (subst IsOutside e h);
+  module_good = λ e. subst IsOutside e h;
+  source_good = λ e. subst IsOutside e h;
+}
+launch_answers code taken launch_name before now out_before out_now result (no_launch is h) = record {
+  run = λ r. absurd (subst IsRunStatus is r);
+  bad_launch = λ e. h;
+  module_good = λ e. cc;
+  source_good = λ e. cc;
+}
+launch_answers code taken launch_name before now out_before out_now result (executed h) = record {
+  run = λ r. h;
+  bad_launch = λ e. absurd (no_run _ result BadLaunch h.status e (λ r. r));
+  module_good = λ e. no_run _ result BadModule h.status e (λ r. r);
+  source_good = λ e. no_run _ result Refused h.status e (λ r. r);
+}
+
 answers_of : (module_name launch_name : List ℕ) (before now : FilesState) (out_before out_now : SinkState) (result : Status)
     → ExecEnd module_name launch_name before out_before now out_now result → ExecAnswers module_name launch_name before out_before now out_now result
-answers_of module_name launch_name before now out_before out_now result (outside h) = record {
+answers_of module_name launch_name before now out_before out_now result (unread h) = record {
   run = λ r. absurd (outside_no_run result h r);
   bad_module = λ e. absurd (outside_no_module result h e);
   bad_launch = λ e. absurd (outside_no_launch result h e);
@@ -370,16 +391,13 @@ answers_of module_name launch_name before now out_before out_now result (no_modu
   bad_module = λ e. h;
   bad_launch = λ e. absurd (cc);
 }
-answers_of module_name launch_name before now out_before out_now result (no_launch is h) = record {
-  run = λ r. absurd (subst IsRunStatus is r);
-  bad_module = λ e. absurd (cc);
-  bad_launch = λ e. h;
-}
-answers_of module_name launch_name before now out_before out_now result (executed h) = record {
-  run = λ r. h;
-  bad_module = λ e. absurd (no_run _ result BadModule h.status e (λ r. r));
-  bad_launch = λ e. absurd (no_run _ result BadLaunch h.status e (λ r. r));
-}
+answers_of module_name launch_name before now out_before out_now result (read_module code is end) =
+    let said = launch_answers code (module_name ∷ launch_name ∷ []) launch_name before now out_before out_now result end in
+    record {
+      run = λ r. (code, is, said.run r);
+      bad_module = λ e. absurd (said.module_good e);
+      bad_launch = λ e. (code, is, said.bad_launch e);
+    }
 
 -- words of no form have none of these answers
 usage_done : (module_name launch_name : List ℕ) (before now : FilesState) (out_before out_now : SinkState) (line : List ℕ) (result : Status)
@@ -387,7 +405,7 @@ usage_done : (module_name launch_name : List ℕ) (before now : FilesState) (out
 unfolding IsOutside
 usage_done module_name launch_name before now out_before out_now line result says =
     elim (says_cases out_before out_now line Usage result says) [
-      | inl h ↦ answers_of module_name launch_name before now out_before out_now result (outside h)
+      | inl h ↦ answers_of module_name launch_name before now out_before out_now result (unread h)
       | inr h ↦ record {
         run = λ r. absurd (subst IsRunStatus h.0 r);
         bad_module = λ e. absurd (let is : result ≡ Usage = h.0 in cc);
@@ -409,4 +427,7 @@ unfolding plan_of
 runs_answers (verb ∷ module_name ∷ launch_name ∷ []) before out_before now out_now result h = λ is.
     let P : Bool → Type 0 = λ b. Runs (cond b (cond (bytes_eq module_name launch_name) None (Some (exec_plan module_name launch_name))) None) before out_before now out_now result in
     by_names (bytes_eq module_name launch_name) module_name launch_name before now out_before out_now result (subst P ((bytes_eq-Decides verb (codes "exec")).1 is) h)
-runs_answers words before out_before now out_now result h = tt
+runs_answers [] before out_before now out_now result h = tt
+runs_answers (one ∷ []) before out_before now out_now result h = tt
+runs_answers (one ∷ two ∷ []) before out_before now out_now result h = tt
+runs_answers (one ∷ two ∷ three ∷ four ∷ words) before out_before now out_now result h = tt

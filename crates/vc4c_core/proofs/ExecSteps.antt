@@ -1,5 +1,5 @@
 -- Steps of `exec`, each a test of what was read.
-use Rattle.std.proofs.Common.{◌≡◌, inl, inr, ℕ, ◌≤◌, true, List, [], ◌∷◌, ◌++◌, length, take, map, refl, sym, ap, ◌∙◌, subst, arith}
+use Rattle.std.proofs.Common.{◌≡◌, inr, ℕ, ◌≤◌, true, List, [], ◌∷◌, ◌++◌, length, take, map, refl, sym, ap, ◌∙◌, subst, arith}
 use Rattle.std.proofs.lemmas.List.{length-append, length-map}
 use Rattle.launch_file.specs.LineText.{Line, line_text}
 use Rattle.launch_file.specs.LaunchText.{launch_text, launch_lines, lines_text, ended, head_lines, buffer_line, arg_line, schedule_line}

@@ -1,5 +1,6 @@
 pub mod Causes
 pub mod ReportLaws
+pub mod RefusalLaws
 pub mod Steps
 pub mod NameLaws
 pub mod BufferSteps
@@ -12,4 +13,6 @@ pub mod Clauses
 pub mod Shortage
 pub mod ExecDone
 pub mod LaunchValid
-pub mod GapLaws
+pub mod Spared
+pub mod RunDone
+pub mod Endings

@@ -1,5 +1,5 @@
 -- The names in a launch are text.
-use Rattle.std.proofs.Common.{◌≡◌, ℕ, ◌<◌, ◌≤◌, List, length, get_or, subst, arith}
+use Rattle.std.proofs.Common.{ℕ, ◌<◌, ◌≤◌, List, length, get_or, subst, arith}
 use Rattle.std.specs.Prelude.{Option, Some, None, IfSome, slice_get, All, IsAscii}
 use Rattle.std.proofs.lemmas.Option.{slice_get-get_or}
 use Rattle.std.proofs.lemmas.Str.Ascii.{IsAscii-from_all}

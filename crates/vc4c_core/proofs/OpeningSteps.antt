@@ -1,12 +1,12 @@
 -- The memory and the uniforms of an opening, one region and one QPU after another.
-use Rattle.std.proofs.Common.{zero, suc, ◌≡◌, ℕ, ◌+◌, ◌-◌, ◌<◌, List, [], ◌∷◌, ◌++◌, length, drop, replicate, get_or, map, flat_map, refl, sym, ap, ◌∙◌, subst, arith, add-one}
+use Rattle.std.proofs.Common.{zero, suc, ◌≡◌, ℕ, ◌+◌, ◌-◌, ◌<◌, List, [], ◌∷◌, ◌++◌, length, drop, replicate, get_or, flat_map, sym, ap, ◌∙◌, arith, add-one}
 use Rattle.std.specs.List.{range_with_len}
 use Rattle.std.proofs.Math.Seq.{drop-cons, drop-length}
 use Rattle.std.proofs.lemmas.List.{flat_map_more}
 use Rattle.launch_file.specs.Launches.{LaunchOf}
 use Rattle.launch_file.specs.Layout.{PlacesOf}
 use Rattle.launch_file.specs.Uniforms.{uniforms_of}
-use Rattle.vc4c_core.specs.Openings.{with_region, with_regions}
+use Rattle.compile_pipe.specs.Openings.{with_region, with_regions}
 
 -- the regions from the i-th on are the i-th and then the later ones
 pub regions_at : (memory : List ℕ) (contents : List (List ℕ)) (i : ℕ) (bytes : List ℕ) → i < length contents → bytes ≡ get_or contents i bytes

@@ -1,19 +1,22 @@
 -- Steps of a run of a plan.
-use Rattle.std.proofs.Common.{◌≡◌, inl, inr, ℕ, ◌+◌, ◌<◌, true, List, [], ◌∷◌, ◌++◌, length, drop, get_or, suc, add-one, refl, sym, ap, ◌∙◌, subst}
-use Rattle.std.specs.Prelude.{None, Some, Option, Result, Ok, Err, IfOk, IfErr}
-use Rattle.std.proofs.Math.Seq.{drop-cons}
+use Rattle.std.proofs.Common.{◌≡◌, inl, inr, ℕ, ◌+◌, ◌<◌, true, List, [], ◌∷◌, ◌++◌, length, map, take, drop, get_or, suc, add-one, refl, sym, ap, ◌∙◌, subst}
+use Rattle.std.specs.Prelude.{Some, Option, Result, Ok, Err, IfOk, IfErr}
+use Rattle.std.proofs.Math.Seq.{drop-cons, take-suc}
+use Rattle.std.proofs.lemmas.List.{map-append}
+use Rattle.launch_file.specs.Layout.{buffer_lens}
 use Rattle.launch_file.specs.declared.launch.BufferLine.{BufferLine}
 use Rattle.q_io.specs.FilesMeaning.{FilesState}
 use Rattle.q_io.specs.SinkMeaning.{SinkState}
 use Rattle.vc4c_core.specs.declared.status.Status.{Status}
 use Rattle.vc4c_core.specs.declared.status.Status.TheVariants.{Memory}
-use Rattle.vc4c_core.specs.Plan.{Plan, reads, writes, commits, answers, Ends, Leads, HasRead}
+use Rattle.vc4c_core.specs.Plan.{Plan, reads, writes, compiles, commits, answers, Ends, Leads, HasRead}
 use Rattle.vc4c_core.specs.Buffers.{filled, read_buffer, read_buffers, write_buffer, write_buffers}
 
 -- before the machine's first step a run may end for want of memory at any place
 pub gives_up : (plan : Plan) (files : FilesState) (out : SinkState) → Ends true plan files out files out Memory
 gives_up (reads name limit next) files out = inl (record { may = refl; is = refl; files = refl; out = refl })
 gives_up (writes name bytes next) files out = inl (record { may = refl; is = refl; files = refl; out = refl })
+gives_up (compiles source kernel next) files out = inl (record { may = refl; is = refl; files = refl; out = refl })
 gives_up (commits next) files out = inl (record { may = refl; is = refl; files = refl; out = refl })
 gives_up (answers answer line) files out = inl (record { may = refl; is = refl; files = refl; out = refl })
 
@@ -51,3 +54,13 @@ write_buffers_at lines buffers i line bytes next within within_buffers is bytes_
 pub if_ok_map : {T E : Type 0} (result : Result T E) (P Q : T → Type 0) → ((x : T) → P x → Q x) → IfOk result P → IfOk result Q
 if_ok_map (Ok x) P Q h p = h x p
 if_ok_map (Err e) P Q h p = tt
+
+-- the sizes of the buffers from the lines up to the i-th
+pub one_more_size : (lines : List BufferLine) (i : ℕ) (line : BufferLine) (got : List (List ℕ)) (bytes : List ℕ)
+    → i < length lines → line ≡ get_or lines i line → map length got ≡ buffer_lens (take i lines) → length bytes ≡ line.size
+    → map length (got ++ bytes ∷ []) ≡ buffer_lens (take (i + 1) lines)
+one_more_size lines i line got bytes within is sizes size =
+    let taken : take (i + 1) lines ≡ take i lines ++ line ∷ [] =
+    ap (λ n. take n lines) (add-one i) ∙ take-suc lines i line within ∙ ap (λ l. take i lines ++ l ∷ []) (sym is) in
+    map-append length got (bytes ∷ []) ∙ ap (λ ns. ns ++ length bytes ∷ []) sizes ∙ ap (λ n. buffer_lens (take i lines) ++ n ∷ []) size
+    ∙ sym (ap buffer_lens taken ∙ map-append (λ buffer. buffer.size) (take i lines) (line ∷ []))

@@ -1,10 +1,8 @@
 -- The buffers of a launch: how they are read and written.
-use Rattle.std.specs.Prelude.{◌≡◌, ℕ, ◌-◌, List, [], ◌∷◌, ◌++◌, length, replicate, map, Option, Some, None, IfSome, IsAscii, ⊤}
+use Rattle.std.specs.Prelude.{ℕ, ◌-◌, List, [], ◌∷◌, ◌++◌, length, replicate, Option, Some, None, IfSome, IsAscii, ⊤}
 use Rattle.launch_file.specs.declared.launch.BufferLine.{BufferLine}
 use Rattle.launch_file.specs.declared.launch.Schedule.{Schedule}
 use Rattle.launch_file.specs.declared.launch.Schedule.TheVariants.{Rounds, Seed, File}
-use Rattle.qpu_machine.specs.Planned.{bytes_of}
-use Rattle.qpu_machine.specs.MachineState.{MachineState}
 use Rattle.vc4c_core.specs.Plan.{Plan, reads, writes}
 
 -- the bytes, and zeros up to the size
@@ -37,10 +35,6 @@ abbrev pub write_buffers : List BufferLine → List (List ℕ) → Plan → Plan
 write_buffers [] buffers next = next
 write_buffers (line ∷ lines) [] next = next
 write_buffers (line ∷ lines) (bytes ∷ buffers) next = write_buffer line bytes (write_buffers lines buffers next)
-
--- the bytes of a machine's buffers
-unfoldable pub buffers_of : MachineState → List (List ℕ)
-buffers_of s = map (bytes_of s.memory) s.fixed.buffers
 
 -- the names of a line are text
 abbrev pub HasTextNames : BufferLine → Type 0

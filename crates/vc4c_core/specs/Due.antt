@@ -1,9 +1,11 @@
 -- What is due of a command where the files are told, and how it may end.
-use Rattle.std.specs.Prelude.{◌≡◌, ◌⊎◌, ℕ, Bool, true, false, List, [], ◌∷◌, ◌++◌, length, Option, Some, None, bytes_eq, nat_le, if◌then◌else◌}
+use Rattle.std.specs.Prelude.{◌≡◌, ◌⊎◌, ℕ, Bool, true, false, List, [], ◌∷◌, ◌++◌, length, Option, Some, None, option_map, bytes_eq, nat_le, if◌then◌else◌, ⊤}
 use Rattle.q_io.specs.Rose.{Rose}
 use Rattle.q_io.specs.FilesMeaning.{Tree, with_file, FilesState}
 use Rattle.q_io.specs.SinkMeaning.{SinkState}
-use Rattle.vc4c_core.specs.Plan.{Plan, reads, writes, commits, answers, status_of}
+use Rattle.vc4q_module.specs.ModuleBytes.{ModuleOf, IsModule}
+use Rattle.compile_pipe.specs.Faithful.{IsFaithful}
+use Rattle.vc4c_core.specs.Plan.{Plan, reads, writes, compiles, commits, answers, status_of}
 use Rattle.vc4c_core.specs.Lines.{Says, SaysTrouble, trouble_line, trouble_status}
 use Rattle.vc4c_core.specs.declared.status.Status.{Status}
 use Rattle.vc4c_core.specs.declared.status.Status.TheVariants.{Memory}
@@ -14,6 +16,8 @@ use Rattle.vc4c_core.specs.declared.places.Trouble.TheVariants.{Missing as IsMis
 pub data Place : Type 0 where
   read : (name : List ℕ) → Place
   write : (name bytes : List ℕ) → Place
+  -- this module is made of the source
+  compile : (source kernel : List ℕ) (code : ModuleOf) → Place
   -- from here on no memory is asked for
   commit : Place
 
@@ -34,18 +38,30 @@ abbrev pub due_read : List ℕ → ℕ → Option (List ℕ) → (List ℕ → D
 due_read name limit None next = trouble_due IsMissing name
 due_read name limit (Some bytes) next = if nat_le (length bytes) limit then then_due (read name) (next bytes) else trouble_due IsTooLong name
 
--- what is due of a plan with these files: the first place where a name isn't there, its file passes the limit or a rule is violated, else the answer of the run
-abbrev pub due_of : Plan → Tree → Due
-due_of (reads name limit next) tree = due_read name limit (tree name) (λ bytes. due_of (next bytes) tree)
-due_of (writes name bytes next) tree = then_due (write name bytes) (due_of next (with_file name (Some bytes) tree))
-due_of (commits next) tree = then_due commit (due_of next tree)
-due_of (answers answer line) tree = record { places = []; status = status_of answer; line = line }
+-- what is due of a plan with these files, where it is these modules that are made of its sources, one after another: the first place where a name
+-- isn't there, its file passes the limit or a rule is violated, else the answer of the run. Where no further module is made, memory is wanting
+abbrev pub due_of : Plan → Tree → List ModuleOf → Due
+due_of (reads name limit next) tree codes = due_read name limit (tree name) (λ bytes. due_of (next bytes) tree codes)
+due_of (writes name bytes next) tree codes = then_due (write name bytes) (due_of next (with_file name (Some bytes) tree) codes)
+due_of (compiles source kernel next) tree [] = record { places = []; status = Memory; line = [] }
+due_of (compiles source kernel next) tree (code ∷ codes) = then_due (compile source kernel code) (due_of (next code) tree codes)
+due_of (commits next) tree codes = then_due commit (due_of next tree codes)
+due_of (answers answer line) tree codes = record { places = []; status = status_of answer; line = line }
+
+-- each module is one, and is faithful to its source
+abbrev pub AreMade : List Place → Type 0
+AreMade [] = ⊤
+AreMade (read name ∷ places) = AreMade places
+AreMade (write name bytes ∷ places) = AreMade places
+AreMade (compile source kernel code ∷ places) = IsModule code × IsFaithful source kernel code × AreMade places
+AreMade (commit ∷ places) = AreMade places
 
 -- the files after these places
 abbrev pub after : List Place → Tree → Tree
 after [] tree = tree
 after (read name ∷ places) tree = after places tree
 after (write name bytes ∷ places) tree = after places (with_file name (Some bytes) tree)
+after (compile source kernel code ∷ places) tree = after places tree
 after (commit ∷ places) tree = after places tree
 
 -- none of these places writes this file
@@ -53,6 +69,7 @@ abbrev pub spares : List ℕ → List Place → Bool
 spares name [] = true
 spares name (read other ∷ places) = spares name places
 spares name (write other bytes ∷ places) = if bytes_eq other name then false else spares name places
+spares name (compile source kernel code ∷ places) = spares name places
 spares name (commit ∷ places) = spares name places
 
 -- a file that none of these places writes is as it was
@@ -65,6 +82,7 @@ abbrev pub has_committed : List Place → Bool
 has_committed [] = false
 has_committed (read name ∷ places) = has_committed places
 has_committed (write name bytes ∷ places) = has_committed places
+has_committed (compile source kernel code ∷ places) = has_committed places
 has_committed (commit ∷ places) = true
 
 -- a place where a fault stopped the command, its cause and what it left of the files: a file whose write failed may hold anything
@@ -77,11 +95,13 @@ StoppedAt (write name bytes) tree before now trouble =
     ((left : Option (List ℕ)) × (now.told ≡ Some (with_file name left tree)))
     × (((trouble ≡ IsWriteFault) × Rose before.write_faults now.write_faults)
     ⊎ ((trouble ≡ IsMemory) × Rose before.shortages now.shortages))
+StoppedAt (compile source kernel code) tree before now trouble = ⊥
 StoppedAt commit tree before now trouble = ⊥
 
 abbrev pub name_of : Place → List ℕ
 name_of (read name) = name
 name_of (write name bytes) = name
+name_of (compile source kernel code) = []
 name_of commit = []
 
 -- all places were passed, and the answer is the one that is due
@@ -99,7 +119,7 @@ pub record AtFault (due : Due) (tree : Tree) (before : FilesState) (now : FilesS
   pub stopped : StoppedAt place (after passed tree) before now trouble
   pub says : SaysTrouble out_before out_now trouble (name_of place) result
 
--- want of memory before the machine's first step: the places before it were passed and nothing was written to the sink
+-- want of memory while memory may be asked for: the places before it were passed and nothing was written to the sink
 pub record ShortOfMemory (asks : Bool) (due : Due) (tree : Tree) (now : FilesState) (out_before out_now : SinkState) (result : Status) : Type 0 where
   pub may : asks ≡ true
   pub is : result ≡ Memory
@@ -117,15 +137,33 @@ EndsAsDue asks due tree before out_before now out_now result =
     ⊎ (AtFault due tree before now out_before out_now result
     ⊎ ShortOfMemory asks due tree now out_before out_now result)
 
+-- how a command ends of which this is due where it makes these modules: it makes some, each faithful to its source
+abbrev pub EndsAsMade : Bool → (List ModuleOf → Due) → Tree → FilesState → SinkState → FilesState → SinkState → Status → Type 0
+EndsAsMade asks due tree before out_before now out_now result =
+    (codes : List ModuleOf) × AreMade (due codes).places × EndsAsDue asks (due codes) tree before out_before now out_now result
+
 -- no fault of the files or the sink came
 pub record IsQuiet (before : FilesState) (out_before : SinkState) (now : FilesState) (out_now : SinkState) : Type 0 where
   pub reads : ¬ (Rose before.read_faults now.read_faults)
   pub writes : ¬ (Rose before.write_faults now.write_faults)
   pub sink : ¬ (Rose out_before.faults out_now.faults)
 
--- where memory was wanting: a shortage was counted, or no file has changed and nothing was written
-abbrev pub ShortOrKept : FilesState → SinkState → FilesState → SinkState → Type 0
-ShortOrKept before out_before now out_now =
+-- the status is the one that is due with the modules that are made, or want of memory
+abbrev pub AnswersAsMade : (List ModuleOf → Due) → Status → Type 0
+AnswersAsMade due result = (codes : List ModuleOf) × AreMade (due codes).places × ((result ≡ (due codes).status) ⊎ (result ≡ Memory))
+
+-- no file has changed but those that are due to be written with the modules that are made
+abbrev pub OnlyWritesMade : (List ModuleOf → Due) → Tree → FilesState → Type 0
+OnlyWritesMade due tree now = (codes : List ModuleOf) × AreMade (due codes).places × OnlyWrites (due codes).places tree now
+
+-- no file has changed, but for this one, if any, that was written
+abbrev pub KeptBut : Option (List ℕ) → FilesState → FilesState → Type 0
+KeptBut None before now = now.told ≡ before.told
+KeptBut (Some name) before now = (now.told ≡ before.told) ⊎ ((bytes : List ℕ) × (now.told ≡ option_map (with_file name (Some bytes)) before.told))
+
+-- where memory was wanting: a shortage was counted, or nothing was written to the sink and no file has changed but for the one that is named here
+abbrev pub ShortOrKept : Option (List ℕ) → FilesState → SinkState → FilesState → SinkState → Type 0
+ShortOrKept first before out_before now out_now =
     Rose before.shortages now.shortages
     ⊎ (Rose out_before.shortages out_now.shortages
-    ⊎ ((now.told ≡ before.told) × (out_now ≡ out_before)))
+    ⊎ (KeptBut first before now × (out_now ≡ out_before)))

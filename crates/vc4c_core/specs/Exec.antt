@@ -1,7 +1,6 @@
 -- The command `exec`: its places.
 use Rattle.std.specs.Prelude.{◌≡◌, ℕ, List, [], ◌∷◌, ◌++◌, Option, Some, None, codes, decimal, ⊤}
 use Rattle.q_io.specs.SinkMeaning.{SinkState}
-use Rattle.q_lane.specs.declared.kinds.Kind.{Kind}
 use Rattle.launch_file.specs.declared.launch.Schedule.{Schedule}
 use Rattle.launch_file.specs.declared.launch.Schedule.TheVariants.{Rounds, Seed, File}
 use Rattle.launch_file.specs.declared.launch.LaunchFault.{LaunchFault}

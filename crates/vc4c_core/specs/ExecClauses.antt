@@ -10,12 +10,14 @@ use Rattle.launch_file.specs.Launches.{LaunchOf, IsLaunch}
 use Rattle.launch_file.specs.LaunchText.{launch_text}
 use Rattle.launch_file.specs.LaunchIn.{launch_in}
 use Rattle.launch_file.specs.Rules.{first_fault as launch_fault}
-use Rattle.launch_file.specs.Fit.{FaultAt, fit_fault}
+use Rattle.launch_file.specs.Fit.{fit_fault}
 use Rattle.vc4q_module.specs.ModuleBytes.{ModuleOf, IsModule, module_bytes, first_fault as module_fault}
 use Rattle.qpu_machine.specs.MachineState.{MachineState, stop_of}
 use Rattle.vc4c_core.specs.Plan.{status_of}
 use Rattle.vc4c_core.specs.Report.{report}
-use Rattle.vc4c_core.specs.Buffers.{filled, buffers_of}
+use Rattle.qpu_machine.specs.Reachable.{AreBytes}
+use Rattle.compile_pipe.specs.Faithful.{buffers_of}
+use Rattle.vc4c_core.specs.Buffers.{filled}
 use Rattle.vc4c_core.specs.Openings.{opening_for}
 use Rattle.vc4c_core.specs.Play.{answer_of, ran}
 use Rattle.vc4c_core.specs.Exec.{schedule_limit, module_line, launch_line}
@@ -44,7 +46,7 @@ IsRead before line bytes = is_from line.from before line.size bytes
   where
     is_from : Option (List ℕ) → FilesState → ℕ → List ℕ → Type 0
     is_from None before size bytes = bytes ≡ filled size []
-    is_from (Some name) before size bytes = (file : List ℕ) × Holds before name file × (length file ≤ size) × (bytes ≡ filled size file)
+    is_from (Some name) before size bytes = (file : List ℕ) × Holds before name file × (length file ≤ size) × AreBytes file × (bytes ≡ filled size file)
 
 -- the bytes of each line
 abbrev pub AreRead : FilesState → List BufferLine → List (List ℕ) → Type 0
@@ -73,21 +75,18 @@ stored (line ∷ lines) (bytes ∷ buffers) tree = stored lines buffers (stored_
 abbrev pub run_of : ModuleOf → LaunchOf → List (List ℕ) → List ℕ → MachineState
 run_of code launch buffers file = ran (opening_for code launch buffers) launch.schedule file
 
--- The machine's run came to its stop, or to the end of the schedule. The module, the launch, the schedule's file and the buffers are those that
+-- The machine's run of this module came to its stop, or to the end of the schedule. The launch, the schedule's file and the buffers are those that
 -- were read; the status and the report are those of the run; and the buffers with an output name were written with the run's bytes, in the order
--- of their lines. No other file has changed.
-pub record Executed (module_name launch_name : List ℕ) (before : FilesState) (out_before : SinkState) (now : FilesState) (out_now : SinkState) (result : Status) : Type 0 where
-  pub code : ModuleOf
+-- of their lines. No other file has changed. `taken` are the files that the command names.
+pub record Executed (code : ModuleOf) (taken : List (List ℕ)) (launch_name : List ℕ) (before : FilesState) (out_before : SinkState) (now : FilesState) (out_now : SinkState) (result : Status) : Type 0 where
   pub text : List ℕ
   pub file : List ℕ
   pub buffers : List (List ℕ)
-  pub module_is : IsModule code
-  pub module_file : Holds before module_name (module_bytes code)
   pub launch_file : Holds before launch_name text
   pub launch_is : IsLaunch (launch_in text)
   pub spelling : text ≡ launch_text (launch_in text)
   pub no_fault : launch_fault text ≡ None
-  pub fits : fit_fault (launch_in text) code.kinds (module_name ∷ launch_name ∷ []) ≡ None
+  pub fits : fit_fault (launch_in text) code.kinds taken ≡ None
   pub schedule_file : IsScheduleFile before (launch_in text).schedule file
   pub contents : AreRead before (launch_in text).buffers buffers
   pub status : result ≡ status_of (answer_of (stop_of (run_of code (launch_in text) buffers file)))
@@ -110,21 +109,25 @@ IsFaultOf text kinds taken rule line =
     (launch_fault text ≡ Some (rule, line))
     ⊎ ((launch_fault text ≡ None) × (fit_fault (launch_in text) kinds taken ≡ Some (record { rule = rule; line = line })))
 
--- The module's file is one, the launch's file violates a rule, and the line says which and where.
-pub record RefusedLaunch (module_name launch_name : List ℕ) (before : FilesState) (out_before : SinkState) (now : FilesState) (out_now : SinkState) : Type 0 where
-  pub code : ModuleOf
+-- The launch's file violates a rule, by itself or with this module and these names, and the line says which and where.
+pub record RefusedLaunch (code : ModuleOf) (taken : List (List ℕ)) (launch_name : List ℕ) (before : FilesState) (out_before : SinkState) (now : FilesState) (out_now : SinkState) : Type 0 where
   pub text : List ℕ
   pub rule : ℕ
   pub at : ℕ
-  pub module_is : IsModule code
-  pub module_file : Holds before module_name (module_bytes code)
   pub read : Holds before launch_name text
-  pub fault : IsFaultOf text code.kinds (module_name ∷ launch_name ∷ []) rule at
+  pub fault : IsFaultOf text code.kinds taken rule at
   pub files : now.told ≡ before.told
   pub line : Gains out_before out_now (launch_line rule at)
 
+-- the module that was read
+pub record IsReadModule (module_name : List ℕ) (before : FilesState) (code : ModuleOf) : Type 0 where
+  pub valid : IsModule code
+  pub file : Holds before module_name (module_bytes code)
+
 -- What each answer of the program's own says: the stop of the run, a file that is no module, a file that is no launch.
 pub record ExecAnswers (module_name launch_name : List ℕ) (before : FilesState) (out_before : SinkState) (now : FilesState) (out_now : SinkState) (result : Status) : Type 0 where
-  pub run : IsRunStatus result → Executed module_name launch_name before out_before now out_now result
+  pub run : IsRunStatus result
+      → (code : ModuleOf) × IsReadModule module_name before code × Executed code (module_name ∷ launch_name ∷ []) launch_name before out_before now out_now result
   pub bad_module : result ≡ BadModule → RefusedModule module_name before out_before now out_now
-  pub bad_launch : result ≡ BadLaunch → RefusedLaunch module_name launch_name before out_before now out_now
+  pub bad_launch : result ≡ BadLaunch
+      → (code : ModuleOf) × IsReadModule module_name before code × RefusedLaunch code (module_name ∷ launch_name ∷ []) launch_name before out_before now out_now

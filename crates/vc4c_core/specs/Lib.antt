@@ -7,5 +7,8 @@ pub mod Buffers
 pub mod Play
 pub mod Openings
 pub mod Exec
+pub mod Refusals
+pub mod Compile
 pub mod ExecClauses
+pub mod CompileClauses
 pub mod Commands

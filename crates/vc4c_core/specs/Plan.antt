@@ -1,17 +1,20 @@
 -- A command as its places in order, and what a run of it may do.
-use Rattle.std.specs.Prelude.{◌≡◌, ◌⊎◌, ℕ, ◌≤◌, Bool, true, false, List, length, slice_index, ◌<◌, Some, option_map, ⊤}
+use Rattle.std.specs.Prelude.{◌≡◌, ◌⊎◌, ℕ, ◌≤◌, Bool, true, false, List, length, slice_index, ◌<◌, Some, option_map}
 use Rattle.q_io.specs.Rose.{Rose}
 use Rattle.q_io.specs.FilesMeaning.{FilesState, FilesCountsStay, Holds, Lacks, Passes, Spoils, with_file}
 use Rattle.q_io.specs.SinkMeaning.{SinkState}
+use Rattle.vc4q_module.specs.ModuleBytes.{ModuleOf, IsModule}
+use Rattle.compile_pipe.specs.Faithful.{IsFaithful}
 use Rattle.vc4c_core.specs.Lines.{Says, SaysTrouble}
 use Rattle.vc4c_core.specs.declared.status.Status.{Status}
-use Rattle.vc4c_core.specs.declared.status.Status.TheVariants.{Done, Memory, BadModule, BadLaunch, Broken, Unfinished}
+use Rattle.vc4c_core.specs.declared.status.Status.TheVariants.{Done, Memory, Refused, BadModule, BadLaunch, Broken, Unfinished}
 use Rattle.vc4c_core.specs.declared.places.Trouble.{Trouble}
 use Rattle.vc4c_core.specs.declared.places.Trouble.TheVariants.{Missing as IsMissing, TooLong as IsTooLong, ReadFault as IsReadFault, WriteFault as IsWriteFault, Memory as IsMemory}
 
 -- the answers of a command that met no trouble at its places
 pub data Answer : Type 0 where
   done : Answer
+  refused : Answer
   bad_module : Answer
   bad_launch : Answer
   broken : Answer
@@ -19,6 +22,7 @@ pub data Answer : Type 0 where
 
 abbrev pub status_of : Answer → Status
 status_of done = Done
+status_of refused = Refused
 status_of bad_module = BadModule
 status_of bad_launch = BadLaunch
 status_of broken = Broken
@@ -30,7 +34,9 @@ pub data Plan : Type 0 where
   reads : (name : List ℕ) (limit : ℕ) (next : List ℕ → Plan) → Plan
   -- it writes a file
   writes : (name bytes : List ℕ) (next : Plan) → Plan
-  -- from here on it asks for no memory: the machine's first step
+  -- it makes a module of a source that is in the profile, and goes on with the module
+  compiles : (source kernel : List ℕ) (next : ModuleOf → Plan) → Plan
+  -- from here on it asks for no memory: the machine's first step, or the write of a module that isn't run
   commits : (next : Plan) → Plan
   -- it writes its line and ends
   answers : (answer : Answer) (line : List ℕ) → Plan
@@ -87,7 +93,7 @@ pub record GivesUp (asks : Bool) (before now : FilesState) (out_before out_now :
   pub files : now ≡ before
   pub out : out_now ≡ out_before
 
--- A run of what is still to do, from these files and this sink to those, with this result.
+-- A run of what is still to do, from these files and this sink to those, with this result. Of a source some faithful module is made.
 abbrev pub Ends : Bool → Plan → FilesState → SinkState → FilesState → SinkState → Status → Type 0
 Ends asks (reads name limit next) before out_before now out_now result =
     GivesUp asks before now out_before out_now result
@@ -97,6 +103,9 @@ Ends asks (writes name bytes next) before out_before now out_now result =
     GivesUp asks before now out_before out_now result
     ⊎ (StopsAtWrite before now out_before out_now name result
     ⊎ ((mid : FilesState) × HasWritten before mid name bytes × Ends asks next mid out_before now out_now result))
+Ends asks (compiles source kernel next) before out_before now out_now result =
+    GivesUp asks before now out_before out_now result
+    ⊎ ((code : ModuleOf) × IsModule code × IsFaithful source kernel code × Ends asks (next code) before out_before now out_now result)
 Ends asks (commits next) before out_before now out_now result =
     GivesUp asks before now out_before out_now result
     ⊎ Ends false next before out_before now out_now result
@@ -108,10 +117,3 @@ Ends asks (answers answer line) before out_before now out_now result =
 abbrev pub Leads : Bool → Plan → FilesState → SinkState → Plan → FilesState → SinkState → Type 0
 Leads asks plan before out_before rest mid out_mid =
     (now : FilesState) (out_now : SinkState) (result : Status) → Ends asks rest mid out_mid now out_now result → Ends asks plan before out_before now out_now result
-
--- a plan whose writes all come once no more memory is asked for
-abbrev pub WritesLate : Plan → Type 0
-WritesLate (reads name limit next) = (bytes : List ℕ) → WritesLate (next bytes)
-WritesLate (writes name bytes next) = ⊥
-WritesLate (commits next) = ⊤
-WritesLate (answers answer line) = ⊤

@@ -12,7 +12,8 @@ use Rattle.qpu_machine.specs.declared.state.Stop.{Stop}
 use Rattle.qpu_machine.specs.declared.state.Stop.TheVariants as stop
 use Rattle.vc4c_core.specs.Plan.{Plan, Answer, answers, done, broken, unfinished}
 use Rattle.vc4c_core.specs.Report.{report}
-use Rattle.vc4c_core.specs.Buffers.{write_buffers, buffers_of}
+use Rattle.compile_pipe.specs.Faithful.{buffers_of}
+use Rattle.vc4c_core.specs.Buffers.{write_buffers}
 
 abbrev pub answer_of : Stop → Answer
 answer_of stop.Finished = done

@@ -3,10 +3,13 @@
 ghost use Rattle.std.specs.Prelude.{◌≡◌, ◌≤◌, [], true, false, length, map, List, ℕ, vec_len, All, IfOk, IfErr, OnOk};
 ghost use Rattle.launch_file.specs.Layout.{buffer_lens};
 ghost use Rattle.vc4c_core.specs.Plan.{Plan, Ends, Leads};
-ghost use Rattle.vc4c_core.specs.Buffers.{filled, read_buffer, read_buffers, write_buffer, write_buffers, buffers_of, HasTextNames};
+ghost use Rattle.vc4c_core.specs.Buffers.{filled, read_buffer, read_buffers, write_buffer, write_buffers, HasTextNames};
+ghost use Rattle.qpu_machine.specs.Reachable.{AreBytes};
+ghost use Rattle.compile_pipe.specs.Openings.{AreAllBytes};
+ghost use Rattle.compile_pipe.specs.Faithful.{buffers_of};
 
 use crate::names::text_of;
-use crate::places::{read_place, say_trouble, write_place};
+use crate::places::{each_below, read_place, say_trouble, write_place};
 use crate::status::Status;
 use launch_file::BufferLine;
 use q_io::{Files, Sink, Text};
@@ -18,10 +21,14 @@ fn fill(mut bytes: Vec<u8>, size: u32) -> Result<Text, Status>
     requires { vec_len bytes ≤ size }
     ensures ok { IfOk result (λ text. text ≡ filled size bytes.items) }
     ensures size { IfOk result (λ text. length text ≡ size) }
+    ensures bytes { IfOk result AreBytes }
     ensures err { IfErr result (λ status. status ≡ Status.Memory) }
 {
     match bytes.resize(size as usize, 0) {
-        Ok(()) => Ok(Text::new(bytes)),
+        Ok(()) => {
+            each_below(&bytes);
+            Ok(Text::new(bytes))
+        }
         Err(_) => Err(Status::Memory),
     }
 }
@@ -38,6 +45,7 @@ fn fill_buffer<F: Files, S: Sink>(
         → Leads true (read_buffer line.now next) (F.state files.old) (S.state out.old)
         (next bytes) (F.state files.new) (S.state out.new)) }
     ensures size { IfOk result (λ bytes. length bytes ≡ line.now.size) }
+    ensures bytes { IfOk result AreBytes }
     ensures err { IfErr result (λ status. (next : List ℕ → Plan)
         → Ends true (read_buffer line.now next) (F.state files.old) (S.state out.old)
         (F.state files.new) (S.state out.new) status) }
@@ -60,6 +68,7 @@ pub fn fill_buffers<F: Files, S: Sink>(
 ) -> Result<Vec<Text>, Status>
     requires { All HasTextNames lines.now }
     ensures sizes { IfOk result (λ buffers. map length buffers.items ≡ buffer_lens lines.now) }
+    ensures bytes { IfOk result (λ buffers. AreAllBytes buffers.items) }
     ensures ok { IfOk result (λ buffers. (next : List (List ℕ) → Plan)
         → Leads true (read_buffers lines.now [] next) (F.state files.old) (S.state out.old)
         (next buffers.items) (F.state files.new) (S.state out.new)) }

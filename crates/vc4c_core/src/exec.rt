@@ -2,6 +2,8 @@
 
 ghost use Rattle.std.specs.Prelude.{◌≡◌, ◌≤◌, ◌∷◌, [], true, ℕ, List, length, map, IfOk, IfErr};
 ghost use Rattle.launch_file.specs.Layout.{buffer_lens};
+ghost use Rattle.launch_file.specs.Laws.{Fits};
+ghost use Rattle.compile_pipe.specs.Openings.{AreAllBytes};
 ghost use Rattle.vc4q_module.specs.ModuleBytes.{IsModule};
 ghost use Rattle.q_io.specs.FilesMeaning.{FilesState};
 ghost use Rattle.vc4c_core.specs.Plan.{Plan, Ends, Leads};
@@ -98,8 +100,9 @@ fn exec_ready<F: Files, S: Sink>(
     out: &mut S,
 ) -> Status
     requires code { IsModule «module» }
-    requires args { length launch.args ≤ 65536 }
+    requires fits { Fits launch «module».kinds [] }
     requires sizes { map length buffers.now ≡ buffer_lens launch.buffers }
+    requires bytes { AreAllBytes buffers.now }
     ensures { Ends true (ready_plan «module» launch file.items buffers.now)
         (F.state files.old) (S.state out.old) (F.state files.new) (S.state out.new) result }
 {
@@ -128,7 +131,7 @@ fn exec_buffers<F: Files, S: Sink>(
     out: &mut S,
 ) -> Status
     requires code { IsModule «module» }
-    requires args { length launch.args ≤ 65536 }
+    requires fits { Fits launch «module».kinds [] }
     ensures { Ends true (buffers_plan «module» launch file.items)
         (F.state files.old) (S.state out.old) (F.state files.new) (S.state out.new) result }
 {
@@ -175,7 +178,7 @@ fn exec_schedule<F: Files, S: Sink>(
     out: &mut S,
 ) -> Status
     requires code { IsModule «module» }
-    requires args { length launch.args ≤ 65536 }
+    requires fits { Fits launch «module».kinds [] }
     ensures { Ends true (schedule_plan «module» launch)
         (F.state files.old) (S.state out.old) (F.state files.new) (S.state out.new) result }
 {
@@ -208,7 +211,7 @@ fn exec_fit<F: Files, S: Sink>(
 
 /// From the read of the launch on. `taken` are the files that the command names.
 #[tactic(auto, unfolding(crate::specs::Exec::launch_plan))]
-fn exec_launch<F: Files, S: Sink>(
+pub fn exec_launch<F: Files, S: Sink>(
     alloc: Global,
     module: Module,
     taken: &[Text],

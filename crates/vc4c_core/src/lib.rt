@@ -3,30 +3,34 @@
 
 ghost use Rattle.std.specs.Prelude.{◌≡◌, ◌⊎◌, true, map, string_bytes, IfSome, None};
 ghost use Rattle.q_io.specs.Rose.{Rose};
-ghost use Rattle.vc4c_core.specs.Commands.{plan_of, due_for, usage_line, Runs, IfExec};
-ghost use Rattle.vc4c_core.specs.Due.{EndsAsDue, IsQuiet, OnlyWrites, ShortOrKept};
+ghost use Rattle.vc4c_core.specs.Commands.{plan_of, due_for, usage_line, Runs, first_written, IfCompile, IfExec, IfRun};
+ghost use Rattle.vc4c_core.specs.Due.{EndsAsMade, AnswersAsMade, OnlyWritesMade, IsQuiet, ShortOrKept};
 ghost use Rattle.vc4c_core.specs.Lines.{Says};
 ghost use Rattle.vc4c_core.specs.ExecClauses.{ExecAnswers};
+ghost use Rattle.vc4c_core.specs.CompileClauses.{CompileAnswers, RunAnswers, CompileEnds, RunEnds};
 
 use crate::command::{Command, command_of};
+use crate::compiling::compile_file;
 use crate::exec::exec;
-pub use crate::laws::law_gaps;
 use crate::places::say;
 pub use crate::playing::{Ready, play};
+use crate::running::run_file;
 pub use crate::status::{Status, code};
 use q_io::{Files, Sink};
 use std::alloc::Global;
 
 mod buffers;
 mod command;
+mod compiling;
 mod exec;
-mod laws;
 mod lines;
 mod names;
 mod opening;
 mod places;
 mod playing;
+mod refusals;
 mod report;
+mod running;
 mod status;
 
 const USAGE: &[u8] =
@@ -50,19 +54,44 @@ fn run_words<F: Files, S: Sink>(
 {
     match command_of(words) {
         Some(
+            Command::Compile {
+                source_name,
+                kernel,
+                module_name,
+            },
+        ) => compile_file(alloc, source_name, kernel, module_name, files, out),
+        Some(
             Command::Exec {
                 module_name,
                 launch_name,
             },
         ) => exec(alloc, module_name, launch_name, files, out),
+        Some(
+            Command::Run {
+                source_name,
+                kernel,
+                module_name,
+                launch_name,
+            },
+        ) => run_file(
+            alloc,
+            source_name,
+            kernel,
+            module_name,
+            launch_name,
+            files,
+            out,
+        ),
         None => say_usage(out),
     }
 }
 
 /// Does what the words ask for, and answers how it went.
 ///
-/// `exec MODULE LAUNCH` runs the module by the launch, writes the buffers with an output name and then
-/// the report of the run. All memory is taken before the machine's first step.
+/// `compile SRC KERNEL MODULE` makes a module of a source and writes it. `exec MODULE LAUNCH` runs a
+/// module by a launch, writes the buffers with an output name and then the report of the run.
+/// `run SRC KERNEL MODULE LAUNCH` does the one after the other. All memory is taken before the
+/// machine's first step.
 pub fn run<F: Files, S: Sink>(alloc: Global, words: &[String], files: &mut F, out: &mut S) -> Status
     // Usage is answered only where the words are of no form, and then its line is all that is done.
     ensures usage { result ≡ Status.Usage → plan_of (map string_bytes words.now) ≡ None }
@@ -70,18 +99,32 @@ pub fn run<F: Files, S: Sink>(alloc: Global, words: &[String], files: &mut F, ou
         → ((F.state files.new) ≡ (F.state files.old))
         × Says (S.state out.old) (S.state out.new) usage_line Status.Usage result }
 
+    // A module that was written is faithful to the source that was read, and a source that is
+    // refused violates the rule that its line names.
+    ensures compile { IfCompile (map string_bytes words.now) (λ source_name kernel module_name.
+        CompileAnswers source_name kernel module_name
+        (F.state files.old) (S.state out.old) (F.state files.new) (S.state out.new) result) }
+
     // The run's stop, a bad module and a bad launch are those of the files that were read.
     ensures exec { IfExec (map string_bytes words.now) (λ module_name launch_name.
         ExecAnswers module_name launch_name
         (F.state files.old) (S.state out.old) (F.state files.new) (S.state out.new) result) }
 
+    // Once the module is written it stays, and the run is that of the written module. A safe launch
+    // breaks no restriction, and leaves what its items leave one by one.
+    ensures run { IfRun (map string_bytes words.now) (λ source_name kernel module_name launch_name.
+        RunAnswers source_name kernel module_name launch_name
+        (F.state files.old) (S.state out.old) (F.state files.new) (S.state out.new) result) }
+
     // No file changes but those that are due to be written.
     ensures files { IfSome (F.state files.old).told (λ tree.
-        OnlyWrites (due_for (plan_of (map string_bytes words.now)) tree).places tree (F.state files.new)) }
+        OnlyWritesMade (due_for (plan_of (map string_bytes words.now)) tree) tree (F.state files.new)) }
 
-    // Want of memory without a counted shortage has changed no file and written nothing.
+    // Want of memory without a counted shortage has changed no file, but for the module of a `run`,
+    // and written nothing.
     ensures memory { result ≡ Status.Memory
-        → ShortOrKept (F.state files.old) (S.state out.old) (F.state files.new) (S.state out.new) }
+        → ShortOrKept (first_written (map string_bytes words.now))
+        (F.state files.old) (S.state out.old) (F.state files.new) (S.state out.new) }
 
     // A fault, a missing file and an over-long file are answered only where such a thing came in
     // this call.
@@ -95,17 +138,27 @@ pub fn run<F: Files, S: Sink>(alloc: Global, words: &[String], files: &mut F, ou
     ensures too_long { result ≡ Status.TooLong
         → Rose (F.state files.old).over_long (F.state files.new).over_long }
 
-    // Where the files are told, it ends as is due of the words, or at a fault or want of memory on
-    // the way there.
+    // Where the files are told, it ends as is due of the words with the module that it made, or at a
+    // fault or want of memory on the way there.
     ensures due { IfSome (F.state files.old).told (λ tree.
-        EndsAsDue true (due_for (plan_of (map string_bytes words.now)) tree) tree
+        EndsAsMade true (due_for (plan_of (map string_bytes words.now)) tree) tree
         (F.state files.old) (S.state out.old) (F.state files.new) (S.state out.new) result) }
 
     // Where they are told and no fault came, the status is the one that is due, or want of memory.
     ensures quiet { IfSome (F.state files.old).told (λ tree.
         IsQuiet (F.state files.old) (S.state out.old) (F.state files.new) (S.state out.new)
-        → (result ≡ (due_for (plan_of (map string_bytes words.now)) tree).status)
-        ⊎ (result ≡ Status.Memory)) }
+        → AnswersAsMade (due_for (plan_of (map string_bytes words.now)) tree) result) }
+
+    // Then a `compile` of a source in the profile comes to its end or wants memory, and so does a
+    // `run` of it by a safe launch with enough rounds.
+    ensures compile_ends { IfSome (F.state files.old).told (λ tree.
+        IsQuiet (F.state files.old) (S.state out.old) (F.state files.new) (S.state out.new)
+        → IfCompile (map string_bytes words.now) (λ source_name kernel module_name.
+        CompileEnds source_name kernel module_name tree result)) }
+    ensures run_ends { IfSome (F.state files.old).told (λ tree.
+        IsQuiet (F.state files.old) (S.state out.old) (F.state files.new) (S.state out.new)
+        → IfRun (map string_bytes words.now) (λ source_name kernel module_name launch_name.
+        RunEnds source_name kernel module_name launch_name tree result)) }
 
     // Told or not, it goes through the places in their order.
     ensures order { Runs (plan_of (map string_bytes words.now))
@@ -114,6 +167,8 @@ pub fn run<F: Files, S: Sink>(alloc: Global, words: &[String], files: &mut F, ou
     run_words(alloc, words, files, out)
 }
 
+#[cfg(test)]
+mod compile_tests;
 #[cfg(test)]
 mod fault_tests;
 #[cfg(test)]

@@ -1,10 +1,12 @@
 //! The machine of a module and a launch before its first step.
 
-ghost use Rattle.std.specs.Prelude.{◌≡◌, ◌+◌, ◌<◌, ◌≤◌, ◌^◌, length, map, replicate, IfOk, OnOk};
+ghost use Rattle.std.specs.Prelude.{◌≡◌, ◌+◌, ◌<◌, ◌≤◌, ◌^◌, [], length, map, replicate, IfOk, OnOk};
 ghost use Rattle.launch_file.specs.Launches.{IsLaunch};
 ghost use Rattle.launch_file.specs.Layout.{ArePlaces, buffer_lens, layout_of, most_rows};
 ghost use Rattle.vc4q_module.specs.ModuleBytes.{IsModule};
-ghost use Rattle.vc4c_core.specs.Openings.{gap, with_region, with_regions, empty_scratch, memory_of, all_uniforms, region_of, plan_for, opening_for};
+ghost use Rattle.compile_pipe.specs.Openings.{gap, with_region, with_regions, memory_of, all_uniforms, region_of, plan_for, AreAllBytes};
+ghost use Rattle.launch_file.specs.Laws.{Fits};
+ghost use Rattle.vc4c_core.specs.Openings.{empty_scratch, opening_for};
 
 use launch_file::{Launch, Places, Region2, layout, uniforms};
 use q_io::Text;
@@ -27,7 +29,7 @@ const ROW_BYTES: usize = 64;
 const WORK_UNIFORMS: u32 = 12;
 
 /// So many bytes outside regions.
-#[tactic(auto, unfolding(crate::specs::Openings::gap))]
+#[tactic(auto, unfolding(compile_pipe::specs::Openings::gap))]
 fn gap_bytes(alloc: Global, size: usize) -> Result<Vec<u8>, AllocError>
     ensures { IfOk result (λ bytes. bytes.items ≡ gap size) }
 {
@@ -35,7 +37,7 @@ fn gap_bytes(alloc: Global, size: usize) -> Result<Vec<u8>, AllocError>
 }
 
 /// Puts a region behind the memory, and the gap behind it.
-#[tactic(auto, unfolding(crate::specs::Openings::with_region, crate::specs::Openings::gap))]
+#[tactic(auto, unfolding(compile_pipe::specs::Openings::with_region, compile_pipe::specs::Openings::gap))]
 fn put_region(memory: &mut Vec<u8>, bytes: &[u8]) -> Result<(), AllocError>
     ensures { OnOk result (memory.new.items ≡ with_region memory.old.items bytes.now) }
 {
@@ -45,7 +47,7 @@ fn put_region(memory: &mut Vec<u8>, bytes: &[u8]) -> Result<(), AllocError>
 }
 
 /// Puts buffers behind the memory.
-#[tactic(auto, unfolding(crate::specs::Openings::with_regions))]
+#[tactic(auto, unfolding(compile_pipe::specs::Openings::with_regions))]
 fn put_buffers(memory: &mut Vec<u8>, buffers: &[Text]) -> Result<(), AllocError>
     ensures { OnOk result (memory.new.items ≡ with_regions memory.old.items buffers.now) }
 {
@@ -56,7 +58,7 @@ fn put_buffers(memory: &mut Vec<u8>, buffers: &[Text]) -> Result<(), AllocError>
 }
 
 /// Puts so many scratches behind the memory.
-#[tactic(auto, unfolding(crate::specs::Openings::with_regions))]
+#[tactic(auto, unfolding(compile_pipe::specs::Openings::with_regions))]
 fn put_scratches(memory: &mut Vec<u8>, scratch: &[u8], qpus: u32) -> Result<(), AllocError>
     ensures { OnOk result (memory.new.items ≡ with_regions memory.old.items (replicate qpus scratch.now)) }
 {
@@ -67,9 +69,9 @@ fn put_scratches(memory: &mut Vec<u8>, scratch: &[u8], qpus: u32) -> Result<(), 
 }
 
 /// The memory of a launch.
-#[tactic(auto, unfolding(crate::specs::Openings::memory_of, crate::specs::Openings::empty_scratch))]
+#[tactic(auto, unfolding(compile_pipe::specs::Openings::memory_of, crate::specs::Openings::empty_scratch))]
 fn memory_for(alloc: Global, buffers: &[Text], qpus: u32, rows: u32) -> Result<Vec<u8>, AllocError>
-    ensures { IfOk result (λ memory. memory.items ≡ memory_of buffers.now qpus rows) }
+    ensures { IfOk result (λ memory. memory.items ≡ memory_of buffers.now (replicate qpus (empty_scratch rows))) }
 {
     let scratch = vec![in alloc; 0u8; ROW_BYTES * rows as usize]?;
     let mut memory = gap_bytes(alloc, FIRST_START)?;
@@ -79,7 +81,7 @@ fn memory_for(alloc: Global, buffers: &[Text], qpus: u32, rows: u32) -> Result<V
 }
 
 /// The uniforms of QPU 0, 1 and so on.
-#[tactic(auto, using(crate::proofs::OpeningSteps::uniforms_more), unfolding(crate::specs::Openings::all_uniforms))]
+#[tactic(auto, using(crate::proofs::OpeningSteps::uniforms_more), unfolding(compile_pipe::specs::Openings::all_uniforms))]
 fn uniforms_for(alloc: Global, launch: &Launch, places: &Places) -> Result<Vec<u32>, AllocError>
     requires { ArePlaces launch.now places.now }
     ensures { IfOk result (λ words. words.items ≡ all_uniforms launch.now places.now) }
@@ -107,15 +109,16 @@ fn regions_for(alloc: Global, places: &[Region2]) -> Result<Vec<Region>, AllocEr
 }
 
 /// What the machine of a module and a launch is begun with, where the buffers have these bytes.
-#[tactic(auto, unfolding(crate::specs::Openings::plan_for))]
+#[tactic(auto, unfolding(compile_pipe::specs::Openings::plan_for))]
 fn plan(
     alloc: Global,
     module: Module,
     launch: &Launch,
     buffers: &[Text],
 ) -> Result<Plan, AllocError>
-    requires { length launch.now.args ≤ 65536 }
-    ensures { IfOk result (λ plan. plan ≡ plan_for «module» launch.now buffers.now) }
+    requires code { IsModule «module» }
+    requires fits { Fits launch.now «module».kinds [] }
+    ensures { IfOk result (λ plan. plan ≡ plan_for «module» launch.now buffers.now (replicate launch.now.qpus (empty_scratch «module».rows))) }
 {
     let places = layout(alloc, launch, module.rows)?;
     let uniforms = uniforms_for(alloc, launch, &places)?;
@@ -142,8 +145,9 @@ pub fn open(
     buffers: &[Text],
 ) -> Result<Machine, AllocError>
     requires code { IsModule «module» }
-    requires args { length launch.now.args ≤ 65536 }
+    requires fits { Fits launch.now «module».kinds [] }
     requires sizes { map length buffers.now ≡ buffer_lens launch.now.buffers }
+    requires bytes { AreAllBytes buffers.now }
     ensures { IfOk result (λ machine. machine ≡ opening_for «module» launch.now buffers.now) }
 {
     let _qpus = launch.qpus;

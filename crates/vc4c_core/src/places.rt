@@ -18,7 +18,8 @@ pub enum Trouble {
     Memory,
 }
 
-fn each_below(bytes: &[u8])
+/// Each item is a byte.
+pub fn each_below(bytes: &[u8])
     ensures { (i : ℕ) → slice_index bytes.now i < 256 }
 {}
 

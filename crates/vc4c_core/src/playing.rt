@@ -1,6 +1,6 @@
 //! From the machine's first step on: the run, the writes and the report.
 
-ghost use Rattle.std.specs.Prelude.{◌≡◌, ◌⊎◌, ◌≤◌, length, All, IfSome, false};
+ghost use Rattle.std.specs.Prelude.{◌≡◌, ◌⊎◌, ◌≤◌, [], length, All, IfSome, false};
 ghost use Rattle.q_io.specs.Rose.{Rose};
 ghost use Rattle.qpu_machine.specs.MachineState.{stop_of};
 ghost use Rattle.vc4c_core.specs.Plan.{Ends, status_of};
@@ -104,7 +104,7 @@ pub fn play<F: Files, S: Sink>(ready: &mut Ready, files: &mut F, out: &mut S) ->
 
     // Where the files are told, it ends as is due of the machine, or at a fault on the way there.
     ensures due { IfSome (F.state files.old).told (λ tree.
-        EndsAsDue false (due_of (play_plan ready.old.machine ready.old.launch ready.old.file.items) tree) tree
+        EndsAsDue false (due_of (play_plan ready.old.machine ready.old.launch ready.old.file.items) tree []) tree
         (F.state files.old) (S.state out.old) (F.state files.new) (S.state out.new) result) }
 
     // Told or not, it goes through its places in their order.

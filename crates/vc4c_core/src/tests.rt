@@ -328,7 +328,14 @@ fn words_of_no_form_are_usage(rt: HostRuntime) -> Result<(), Fail> {
         "Exec m l",
         "--help",
         "disasm m",
-        "compile m k l",
+        "compile m k",
+        "compile m k m",
+        "compile m k l l",
+        "run l k m",
+        "run a k a l",
+        "run a k m a",
+        "run a k m m",
+        "Run a k m l",
     ] {
         let (got, text) = answer(alloc, line, &FOUR_WORDS, LAUNCH)?;
         assert_eq!(rt; code(got), 2, "at {line}");

@@ -1,6 +1,7 @@
 use Rattle.std.proofs.Common.{◌≡◌, ℕ, List, [], drop, take, length, map, true}
 use Rattle.launch_file.specs.Layout.{buffer_lens}
 use Rattle.std.specs.Prelude.{vec_len}
+use Rattle.compile_pipe.specs.Openings.{AreAllBytes}
 use Rattle.vc4c_core.specs.Plan.{Plan, Leads}
 use Rattle.vc4c_core.specs.Buffers.{read_buffers}
 use Rattle.vc4c_core.proofs.buffers.fill_buffers.Given as goal
@@ -9,5 +10,6 @@ abbrev pub invariant-loop-line : goal.invariant-loop-line
 invariant-loop-line g l = record {
   count : vec_len l.buffers ≡ l.line-index;
   sizes : map length l.buffers.items ≡ buffer_lens (take l.line-index l.lines);
+  bytes : AreAllBytes l.buffers.items;
   leads : (next : List (List ℕ) → Plan) → Leads true (read_buffers l.lines [] next) (g.F.Files.state l.initial.files) (g.S.Sink.state l.initial.out) (read_buffers (drop l.line-index l.lines) l.buffers.items next) (g.F.Files.state l.files) (g.S.Sink.state l.out);
 }

@@ -1,6 +1,7 @@
 use Rattle.std.proofs.Common.{◌+◌, arith, drop, false, sym, subst}
 use Rattle.vc4c_core.specs.Plan.{Plan, Ends}
-use Rattle.vc4c_core.specs.Buffers.{write_buffers, buffers_of}
+use Rattle.compile_pipe.specs.Faithful.{buffers_of}
+use Rattle.vc4c_core.specs.Buffers.{write_buffers}
 use Rattle.vc4c_core.proofs.BufferSteps.{stores_at}
 use Rattle.vc4c_core.proofs.buffers.store_buffers.Goals as goal
 

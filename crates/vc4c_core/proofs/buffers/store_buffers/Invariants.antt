@@ -1,6 +1,7 @@
 use Rattle.std.proofs.Common.{drop, false}
 use Rattle.vc4c_core.specs.Plan.{Plan, Leads}
-use Rattle.vc4c_core.specs.Buffers.{write_buffers, buffers_of}
+use Rattle.compile_pipe.specs.Faithful.{buffers_of}
+use Rattle.vc4c_core.specs.Buffers.{write_buffers}
 use Rattle.vc4c_core.proofs.buffers.store_buffers.Given as goal
 
 abbrev pub invariant-loop-i : goal.invariant-loop-i

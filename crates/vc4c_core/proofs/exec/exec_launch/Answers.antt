@@ -1,5 +1,4 @@
-use Rattle.std.proofs.Common.{inr, rules, ap, sym, subst, arith, ◌≡◌, ◌≤◌, length}
-use Rattle.std.specs.Prelude.{Some, None, Err, List, ℕ}
+use Rattle.std.proofs.Common.{inr, rules, ap, subst, arith, ◌≡◌, length}
 use Rattle.launch_file.specs.LaunchText.{launch_text}
 use Rattle.launch_file.specs.Rules.{first_fault}
 use Rattle.launch_file.specs.LaunchIn.{launch_in}

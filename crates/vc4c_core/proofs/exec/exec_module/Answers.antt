@@ -1,5 +1,5 @@
-use Rattle.std.proofs.Common.{inr, rules, ap, sym, subst, ◌≡◌, ◌∙◌}
-use Rattle.std.specs.Prelude.{Some, None, Err, List, ℕ}
+use Rattle.std.proofs.Common.{inr, rules, ap, subst, ◌≡◌}
+use Rattle.std.specs.Prelude.{None, Err}
 use Rattle.vc4q_module.specs.ModuleBytes.{first_fault, module_in, module_bytes}
 use Rattle.vc4c_core.specs.Plan.{HasRead}
 use Rattle.vc4c_core.specs.Exec.{module_plan, module_limit, IsModuleFault}

@@ -1,5 +1,5 @@
 use Rattle.std.proofs.Common.{◌≡◌, drop}
-use Rattle.vc4c_core.specs.Openings.{with_regions}
+use Rattle.compile_pipe.specs.Openings.{with_regions}
 use Rattle.vc4c_core.proofs.opening.put_buffers.Given as goal
 
 abbrev pub invariant-loop-buffer : goal.invariant-loop-buffer

@@ -1,5 +1,5 @@
 use Rattle.std.proofs.Common.{◌+◌, ◌-◌, arith, replicate, sym, ap, ◌∙◌}
-use Rattle.vc4c_core.specs.Openings.{with_regions}
+use Rattle.compile_pipe.specs.Openings.{with_regions}
 use Rattle.vc4c_core.proofs.OpeningSteps.{same_regions}
 use Rattle.vc4c_core.proofs.opening.put_scratches.Goals as goal
 

@@ -1,5 +1,5 @@
 use Rattle.std.proofs.Common.{◌≡◌, ◌-◌, replicate}
-use Rattle.vc4c_core.specs.Openings.{with_regions}
+use Rattle.compile_pipe.specs.Openings.{with_regions}
 use Rattle.vc4c_core.proofs.opening.put_scratches.Given as goal
 
 abbrev pub invariant-loop-qpu : goal.invariant-loop-qpu

@@ -1,5 +1,5 @@
 use Rattle.std.proofs.Common.{◌≡◌, take, map}
-use Rattle.vc4c_core.specs.Openings.{region_of}
+use Rattle.compile_pipe.specs.Openings.{region_of}
 use Rattle.vc4c_core.proofs.opening.regions_for.Given as goal
 
 abbrev pub invariant-loop-place : goal.invariant-loop-place

@@ -1,7 +1,7 @@
 use Rattle.std.proofs.Common.{subst, ap}
 use Rattle.launch_file.specs.Launches.{IsLaunch}
 use Rattle.vc4c_core.proofs.NameLaws.{text_names_of}
-use Rattle.vc4c_core.proofs.Clauses.{plan_due, play_caused}
+use Rattle.vc4c_core.proofs.Clauses.{play_due, play_caused}
 use Rattle.vc4c_core.proofs.playing.play.Goals as goal
 
 pub returns : goal.returns
@@ -10,7 +10,7 @@ returns g c =
     record {
       memory = caused.memory;
       write_fault = caused.write_fault;
-      due = plan_due _ _ _ _ _ _ _ c.play_places.ensures;
+      due = play_due _ _ _ _ _ _ _ _ c.play_places.ensures;
       order = c.play_places.ensures;
     }
 
