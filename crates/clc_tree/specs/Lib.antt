@@ -1,0 +1,10 @@
+pub mod Kinds
+pub mod Expressions
+pub mod ExpressionRules
+pub mod Statements
+pub mod StatementRules
+pub mod Programs
+pub mod ProgramRules
+pub mod Flat
+pub mod Proper
+pub mod SourceText
