@@ -1,0 +1,5 @@
+mod Handing
+mod Chains
+mod Parts
+mod Top
+mod OneAnswer
