@@ -384,3 +384,15 @@ fn copies(rt: HostRuntime) -> Result<(), AllocError> {
     assert!(rt; Text::from_slice(rt.alloc(), b"abd")? > text);
     Ok(())
 }
+
+#[test]
+fn fault_texts(rt: HostRuntime) {
+    let rule = LexFault::Rule {
+        rule: LexRule::L2,
+        at: 8,
+    };
+    match format!(in rt.alloc(); "{rule} {}", LexFault::Memory) {
+        Ok(text) => assert!(rt; text.as_str() == "rule memory"),
+        Err(_) => assert!(rt; false),
+    }
+}

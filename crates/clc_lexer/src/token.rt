@@ -7,6 +7,7 @@ use crate::marks::Mark;
 use crate::text::Text;
 use crate::words::Word;
 use std::alloc::{AllocError, AllocFailed};
+use thiserror::Error;
 
 /// What a token says.
 #[derive(Drop, PartialEq, Eq)]
@@ -73,11 +74,13 @@ pub enum LexRule {
 }
 
 /// Why a source has no tokens.
-#[derive(Clone, Copy, Debug, PartialEq, Eq)]
+#[derive(Clone, Copy, Debug, PartialEq, Eq, Error)]
 pub enum LexFault {
     /// The first rule that is violated, and the offset of the place.
+    #[error("rule")]
     Rule { rule: LexRule, at: u32 },
     /// No memory was left.
+    #[error("memory")]
     Memory,
 }
 
