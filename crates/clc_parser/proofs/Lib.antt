@@ -2,4 +2,4 @@ mod Handing
 mod Chains
 mod Parts
 mod Top
-mod OneAnswer
+pub mod OneAnswer

@@ -1,0 +1,13 @@
+pub mod Judged
+pub mod Rules
+pub mod Words
+pub mod Typing
+pub mod Heights
+pub mod Names
+pub mod Blocks
+pub mod Programs
+pub mod Scope
+pub mod Walk
+pub mod Answers
+pub mod Steps
+pub mod Walks
