@@ -3,7 +3,8 @@ pub mod OpeningGaps
 pub mod OpeningBytes
 pub mod OpeningWords
 pub mod OpeningLaws
-pub mod SourceLaws
+pub mod Violations
+pub mod SourceSteps
 pub mod Computing
 pub mod EmptyRun
 pub mod EmptyFaithful

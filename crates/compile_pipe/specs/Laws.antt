@@ -1,4 +1,4 @@
--- What openings hold, that launches can be safe, and what faithful modules give to whoever runs them.
+-- That first violations are one, what openings hold, that launches can be safe, and what faithful modules give to whoever runs them.
 use Rattle.std.specs.Prelude.{◌≡◌, ℕ, ◌<◌, ◌≤◌, List, length, get_or, map, replicate}
 use Rattle.launch_file.specs.Launches.{LaunchOf, items_of}
 use Rattle.launch_file.specs.Layout.{layout_of, buffer_lens, scratch_lens}
@@ -11,11 +11,20 @@ use Rattle.qpu_machine.specs.MachineState.{stop_of}
 use Rattle.qpu_machine.specs.MachineRun.{machine_run}
 use Rattle.qpu_machine.specs.Reachable.{AreWords, AreBytes}
 use Rattle.qpu_machine.specs.Schedules.{rounds_of}
-use Rattle.compile_pipe.specs.Profile.{IsInProfile}
+use Rattle.compile_pipe.specs.declared.refusal.SourceRule.{SourceRule}
+use Rattle.compile_pipe.specs.Profile.{IsInProfile, IsFirstViolation}
 use Rattle.compile_pipe.specs.ItemMeaning.{Ended, Kernel, IsKernel}
 use Rattle.compile_pipe.specs.LaunchMeaning.{left_by, turns_of, IsSafe}
 use Rattle.compile_pipe.specs.Openings.{Setting, IsValid, IsSetting, Covered, plan_for, opening_of}
 use Rattle.compile_pipe.specs.Faithful.{buffers_of, most_steps, IsFaithful}
+
+-- ---- sources
+
+-- a source has one first violation at most for a kernel's name, and none where it is in the profile
+pub record HasOneViolation : Type 0 where
+  pub one : (source kernel : List ℕ) (rule other : SourceRule) (at place : ℕ)
+      → IsFirstViolation source kernel rule at → IsFirstViolation source kernel other place → (rule ≡ other) × (at ≡ place)
+  pub none : (source kernel : List ℕ) (rule : SourceRule) (at : ℕ) → IsInProfile source kernel → ¬ (IsFirstViolation source kernel rule at)
 
 -- ---- openings
 

@@ -1,3 +1,4 @@
+pub mod RuleNames
 pub mod Profile
 pub mod ItemMeaning
 pub mod LaunchMeaning

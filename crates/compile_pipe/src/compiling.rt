@@ -1,51 +1,48 @@
 //! From a source to a module.
 
-ghost use Rattle.std.specs.Prelude.{◌≡◌, ℕ, List, Err, Some, None, IfOk};
-ghost use Rattle.vc4q_module.specs.ModuleBytes.{IsModule};
+ghost use Rattle.std.specs.Prelude.{◌≡◌, ◌⊎◌, ◌<◌, ◌^◌, ℕ, Ok, Err, List, IfOk, OnOk, length};
+ghost use Rattle.vc4q_module.specs.ModuleBytes.{ModuleOf, IsModule};
 ghost use Rattle.compile_pipe.specs.declared.refusal.SourceRule.{SourceRule as AnyRule};
-ghost use Rattle.compile_pipe.specs.Profile.{is_source as is_a_source, name_in, first_violation as first_of, IsInProfile};
+ghost use Rattle.compile_pipe.specs.Profile.{is_empty_block as is_empty_block_of, is_built as is_built_function, IsTyped, IsInProfile, IsFirstViolation};
 ghost use Rattle.compile_pipe.specs.EmptyCode.{empty_module};
 ghost use Rattle.compile_pipe.specs.Faithful.{IsFaithful};
 
-use crate::refusal::{Refusal, SourceRule, Violation};
+use crate::refusal::{Refusal, SourceRule};
+use crate::sources::typed_tree;
 use crate::words::EMPTY;
+use clc_types::{TFunction, TStmt, Typed, kernel as kernel_number};
 use std::alloc::Global;
 use vc4q_module::{Memory, Module};
 
-/// The byte of a name in `kernel void X(){}`.
-const NAME: usize = 12;
-
-/// Whether the source is `kernel void X(){}` with a lower-case letter X, and at most one byte 10 after it.
-#[tactic(auto, unfolding(crate::specs::Profile::is_source))]
-fn is_source(source: &[u8]) -> bool
-    ensures { result ≡ is_a_source source.now }
+/// Whether the form of a kernel is built so far: it has no parameters, and its body no statement.
+fn is_built(function: &TFunction) -> bool
+    ensures { result ≡ is_built_function function.now }
 {
-    if source.len() <= NAME || !source[NAME].is_ascii_lowercase() {
-        return false;
-    }
-    let mut kernel = *b"kernel void x(){}\n";
-    kernel[NAME] = source[NAME];
-    source == &kernel[..17] || source == &kernel[..]
+    function.params == 0
+        && matches!(&function.body, TStmt::Block(statements) if statements.is_empty())
 }
 
-/// The first rule that the source or the name of the wanted kernel violates.
-#[tactic(auto, unfolding(crate::specs::Profile::first_violation))]
-fn first_violation(source: &[u8], kernel: &[u8]) -> Option<Violation>
-    ensures { result ≡ first_of source.now kernel.now }
+/// Whether the wanted kernel of a source is there and its form is built.
+fn allow(typed: &Typed, kernel: &[u8]) -> Result<(), Refusal>
+    requires { length typed.now.functions < 2 ^ 32 }
+    ensures ok { OnOk result ((source : List ℕ) → IsTyped source typed.now → IsInProfile source kernel.now) }
+    ensures err { (rule : AnyRule) (at : ℕ) → result ≡ Err (Refusal.Rule rule at)
+        → (source : List ℕ) → IsTyped source typed.now → IsFirstViolation source kernel.now rule at }
 {
-    if !is_source(source) {
-        return Some(Violation {
-            rule: SourceRule::G1,
-            at: 0,
-        });
-    }
-    if kernel != [source[NAME]].as_slice() {
-        return Some(Violation {
+    let Some(number) = kernel_number(typed, kernel) else {
+        return Err(Refusal::Rule {
             rule: SourceRule::K1,
             at: 0,
         });
+    };
+    let function = &typed.functions.as_slice()[number as usize];
+    if !is_built(function) {
+        return Err(Refusal::Rule {
+            rule: SourceRule::N0,
+            at: function.at,
+        });
     }
-    None
+    Ok(())
 }
 
 /// The module of a kernel that does nothing.
@@ -62,11 +59,27 @@ fn empty(alloc: Global) -> Result<Module, Memory>
     })
 }
 
+/// The module of the kernel of this name in a source, or the first rule that is violated.
+fn module_of(alloc: Global, source: &[u8], kernel: &[u8]) -> Result<Module, Refusal>
+    ensures faithful { IfOk result (λ m. IsFaithful source.now kernel.now m) }
+    ensures limits { IfOk result IsModule }
+    ensures profile { IfOk result (λ m. IsInProfile source.now kernel.now) }
+    ensures refused { (rule : AnyRule) (at : ℕ) → result ≡ Err (Refusal.Rule rule at)
+        → IsFirstViolation source.now kernel.now rule at }
+{
+    let typed = typed_tree(alloc, source)?;
+    allow(&typed, kernel)?;
+    match empty(alloc) {
+        Ok(module) => Ok(module),
+        Err(_) => Err(Refusal::Memory),
+    }
+}
+
 /// The module of the kernel of this name in a source.
 ///
-/// For now a source is in the profile for a name where it is `kernel void X(){}`, with a lower-case letter X that is the name
-/// and at most one byte 10 after it. Another source, or another name, is refused with the first rule that it violates, at
-/// a byte counted from 0. Where the module can't be kept the answer is `Memory`.
+/// A source is in the profile for a name where it violates no rule on bytes, of the grammar or of types, and its kernel of
+/// that name has a form that is built so far: no parameters, and a body without statements. Another source is refused with
+/// the first rule that it violates, at a byte counted from 0. Where memory is wanting the answer is `Memory`.
 pub fn compile(alloc: Global, source: &[u8], kernel: &[u8]) -> Result<Module, Refusal>
 
     // A module is faithful to the kernel, and the source is in the profile.
@@ -76,16 +89,13 @@ pub fn compile(alloc: Global, source: &[u8], kernel: &[u8]) -> Result<Module, Re
 
     // A rule is the first that is violated.
     ensures refused { (rule : AnyRule) (at : ℕ) → result ≡ Err (Refusal.Rule rule at)
-        → first_of source.now kernel.now ≡ Some (record { rule = rule; at = at }) }
+        → IsFirstViolation source.now kernel.now rule at }
+
+    // Only want of memory hides the first violated rule, or a module where there is none.
+    ensures violated { (rule : AnyRule) (at : ℕ) → IsFirstViolation source.now kernel.now rule at
+        → (result ≡ Err (Refusal.Rule rule at)) ⊎ (result ≡ Err Refusal.Memory) }
+    ensures lawful { IsInProfile source.now kernel.now
+        → ((m : ModuleOf) × (result ≡ Ok m)) ⊎ (result ≡ Err Refusal.Memory) }
 {
-    if let Some(violation) = first_violation(source, kernel) {
-        return Err(Refusal::Rule {
-            rule: violation.rule,
-            at: violation.at,
-        });
-    }
-    match empty(alloc) {
-        Ok(module) => Ok(module),
-        Err(_) => Err(Refusal::Memory),
-    }
+    module_of(alloc, source, kernel)
 }

@@ -1,7 +1,12 @@
 //! Laws, each the contract of a function that does nothing.
 
-ghost use Rattle.compile_pipe.specs.Laws.{SettingsOpen, ValidLaunchesHaveSettings, KernelsAreOne, IdleLaunchesAreSafe, SafeRunsFinish};
+ghost use Rattle.compile_pipe.specs.Laws.{HasOneViolation, SettingsOpen, ValidLaunchesHaveSettings, KernelsAreOne, IdleLaunchesAreSafe, SafeRunsFinish};
 ghost use Rattle.compile_pipe.specs.WrongModules.{WrongModules};
+
+/// A source has one first violation at most for a kernel's name, and none where it is in the profile.
+pub fn law_violations()
+    ensures { HasOneViolation }
+{}
 
 /// A machine may be begun with each setting of a module; it has the bytes of each buffer and scratch in
 /// its place, and 165 in each byte outside them.

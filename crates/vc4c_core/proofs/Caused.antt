@@ -95,7 +95,7 @@ ends_caused asks (writes name bytes next) before out_before now out_now result (
 ends_caused asks (writes name bytes next) before out_before now out_now result (inr (inr h)) =
     earlier asks before h.0 now out_before out_now result h.1.counts (ends_caused asks next h.0 out_before now out_now result h.2)
 ends_caused asks (compiles source kernel next) before out_before now out_now result (inl h) = gave_up asks before now out_before out_now result h.may h.is h.out
-ends_caused asks (compiles source kernel next) before out_before now out_now result (inr h) = ends_caused asks (next h.0) before out_before now out_now result h.3
+ends_caused asks (compiles source kernel next) before out_before now out_now result (inr h) = ends_caused asks (next h.0) before out_before now out_now result h.2
 ends_caused asks (commits next) before out_before now out_now result (inl h) = gave_up asks before now out_before out_now result h.may h.is h.out
 ends_caused asks (commits next) before out_before now out_now result (inr h) =
     no_longer_asks asks before now out_before out_now result (ends_caused false next before out_before now out_now result h)

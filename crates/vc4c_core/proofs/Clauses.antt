@@ -6,9 +6,8 @@ use Rattle.q_io.specs.FilesMeaning.{Tree, with_file, FilesState}
 use Rattle.q_io.specs.SinkMeaning.{SinkState, PutsAll}
 use Rattle.q_io.specs.declared.Put.{Put}
 use Rattle.q_io.specs.declared.Put.TheVariants.{Done as WasPut, Failed as PutFailed, Memory as PutShort}
-use Rattle.vc4q_module.specs.ModuleBytes.{ModuleOf}
 use Rattle.vc4c_core.specs.Lines.{Says, SaysTrouble, status_after}
-use Rattle.vc4c_core.specs.Plan.{Plan, reads, writes, compiles, commits, answers, Ends}
+use Rattle.vc4c_core.specs.Plan.{Compilation, Plan, reads, writes, compiles, commits, answers, Ends}
 use Rattle.vc4c_core.specs.Due.{Place, read, write, compile, commit, Due, then_due, EndsAsDue, EndsAsMade, AnswersAsMade, OnlyWritesMade, StoppedAt, IsQuiet, OnlyWrites, name_of, after, spares, due_of}
 use Rattle.launch_file.specs.declared.launch.BufferLine.{BufferLine}
 use Rattle.launch_file.specs.Launches.{LaunchOf}
@@ -55,7 +54,7 @@ fault_quiet (read place_name) tree before now out_before out_now name trouble re
     elim h.1 [ inl rose ↦ absurd (q.reads rose.1) | inr short ↦ (subst (λ t. SaysTrouble out_before out_now t name result) short.0 says).1 ]
 fault_quiet (write place_name bytes) tree before now out_before out_now name trouble result q h says =
     elim h.1 [ inl rose ↦ absurd (q.writes rose.1) | inr short ↦ (subst (λ t. SaysTrouble out_before out_now t name result) short.0 says).1 ]
-fault_quiet (compile source kernel code) tree before now out_before out_now name trouble result q h says = absurd h
+fault_quiet (compile source kernel made) tree before now out_before out_now name trouble result q h says = absurd h
 fault_quiet commit tree before now out_before out_now name trouble result q h says = absurd h
 
 due_quiet : (asks : Bool) (due : Due) (tree : Tree) (before : FilesState) (out_before : SinkState) (now : FilesState) (out_now : SinkState) (result : Status)
@@ -165,7 +164,7 @@ after_spares [] tree name h = refl
 after_spares (read other ∷ places) tree name h = after_spares places tree name h
 after_spares (write other bytes ∷ places) tree name h =
     after_spares places (with_file other (Some bytes) tree) name (spares_rest (bytes_eq other name) (spares name places) h) ∙ spares_same (Some bytes) name other places tree h
-after_spares (compile source kernel code ∷ places) tree name h = after_spares places tree name h
+after_spares (compile source kernel made ∷ places) tree name h = after_spares places tree name h
 after_spares (commit ∷ places) tree name h = after_spares places tree name h
 
 -- what is spared by places is spared by the first of them
@@ -173,14 +172,14 @@ spares_first : (first rest : List Place) (name : List ℕ) → spares name (firs
 spares_first [] rest name h = refl
 spares_first (read other ∷ first) rest name h = spares_first first rest name h
 spares_first (write other bytes ∷ first) rest name h = spares_both (bytes_eq other name) _ _ (λ e. spares_first first rest name e) h
-spares_first (compile source kernel code ∷ first) rest name h = spares_first first rest name h
+spares_first (compile source kernel made ∷ first) rest name h = spares_first first rest name h
 spares_first (commit ∷ first) rest name h = spares_first first rest name h
 
 spares_last : (first rest : List Place) (name : List ℕ) → spares name (first ++ rest) ≡ true → spares name rest ≡ true
 spares_last [] rest name h = h
 spares_last (read other ∷ first) rest name h = spares_last first rest name h
 spares_last (write other bytes ∷ first) rest name h = spares_last first rest name (spares_rest (bytes_eq other name) (spares name (first ++ rest)) h)
-spares_last (compile source kernel code ∷ first) rest name h = spares_last first rest name h
+spares_last (compile source kernel made ∷ first) rest name h = spares_last first rest name h
 spares_last (commit ∷ first) rest name h = spares_last first rest name h
 
 stopped_spares : (place : Place) (passed rest : List Place) (tree : Tree) (before now : FilesState) (trouble : Trouble)
@@ -195,7 +194,7 @@ stopped_spares (write other bytes) passed rest tree before now trouble h = recor
   told = h.0.1;
   others = λ name spared. spares_same h.0.0 name other rest (after passed tree) (spares_last passed _ name spared) ∙ after_spares passed tree name (spares_first passed _ name spared);
 }
-stopped_spares (compile source kernel code) passed rest tree before now trouble h = absurd h
+stopped_spares (compile source kernel made) passed rest tree before now trouble h = absurd h
 stopped_spares commit passed rest tree before now trouble h = absurd h
 
 due_files : (asks : Bool) (due : Due) (tree : Tree) (before : FilesState) (out_before : SinkState) (now : FilesState) (out_now : SinkState) (result : Status)
@@ -226,14 +225,14 @@ Stores (compiles source kernel next) = ⊥
 Stores (commits next) = Stores next
 Stores (answers answer line) = ⊤
 
--- it makes no module
-stores_due : (plan : Plan) (tree : Tree) (codes : List ModuleOf) → Stores plan → due_of plan tree codes ≡ due_of plan tree []
+-- it compiles nothing
+stores_due : (plan : Plan) (tree : Tree) (all : List Compilation) → Stores plan → due_of plan tree all ≡ due_of plan tree []
 unfolding Stores
-stores_due (reads name limit next) tree codes h = absurd h
-stores_due (writes name bytes next) tree codes h = ap (then_due (write name bytes)) (stores_due next (with_file name (Some bytes) tree) codes h)
-stores_due (compiles source kernel next) tree codes h = absurd h
-stores_due (commits next) tree codes h = ap (then_due commit) (stores_due next tree codes h)
-stores_due (answers answer line) tree codes h = refl
+stores_due (reads name limit next) tree all h = absurd h
+stores_due (writes name bytes next) tree all h = ap (then_due (write name bytes)) (stores_due next (with_file name (Some bytes) tree) all h)
+stores_due (compiles source kernel next) tree all h = absurd h
+stores_due (commits next) tree all h = ap (then_due commit) (stores_due next tree all h)
+stores_due (answers answer line) tree all h = refl
 
 write_stores : (size : ℕ) (from to : Option (List ℕ)) (bytes : List ℕ) (next : Plan) → Stores next → Stores (write_buffer (record { size = size; from = from; to = to }) bytes next)
 unfolding Stores

@@ -16,13 +16,14 @@ use Rattle.qpu_machine.specs.declared.state.Stop.TheVariants as stop
 use Rattle.qpu_machine.specs.MachineState.{MachineState, stop_of}
 use Rattle.qpu_machine.specs.MachineRun.{machine_run}
 use Rattle.qpu_machine.specs.Schedules.{rounds_of}
-use Rattle.compile_pipe.specs.Profile.{first_violation}
+use Rattle.compile_pipe.specs.Profile.{IsInProfile}
 use Rattle.compile_pipe.specs.ItemMeaning.{Kernel, IsKernel}
 use Rattle.compile_pipe.specs.Openings.{IsSetting}
 use Rattle.compile_pipe.specs.Faithful.{buffers_of, IsFaithful}
+use Rattle.compile_pipe.proofs.Violations.{has_one_violation}
 use Rattle.compile_pipe.proofs.KernelLaws.{kernels_are_one}
 use Rattle.compile_pipe.proofs.Finishing.{safe_runs_finish}
-use Rattle.vc4c_core.specs.Plan.{Plan, status_of}
+use Rattle.vc4c_core.specs.Plan.{Compilation, IsCompilation, compiled, violated, Plan, compiles, status_of}
 use Rattle.vc4c_core.specs.Due.{then_due, read, due_of, AreMade, AnswersAsMade, IsQuiet}
 use Rattle.vc4c_core.specs.Buffers.{filled, read_buffer, read_buffers, write_buffer, write_buffers}
 use Rattle.vc4c_core.specs.Openings.{zero_setting, opening_for}
@@ -47,40 +48,46 @@ either status result due (inr e) = inr e
 
 -- ---- the source
 
--- what is due of a source in the profile
-source_due : (source_name kernel source : List ℕ) (next : ModuleOf → Plan) (tree : Tree) (codes : List ModuleOf)
-    → tree source_name ≡ Some source → length source ≤ source_limit → first_violation source kernel ≡ None
-    → due_of (source_plan source_name kernel next) tree codes ≡ then_due (read source_name) (due_of (after_source None source kernel next) tree codes)
+-- what is due of a source that is read
+pub source_due : (source_name kernel source : List ℕ) (next : ModuleOf → Plan) (tree : Tree) (all : List Compilation)
+    → tree source_name ≡ Some source → length source ≤ source_limit
+    → due_of (source_plan source_name kernel next) tree all ≡ then_due (read source_name) (due_of (compiles source kernel (after_source source next)) tree all)
 unfolding source_plan
-source_due source_name kernel source next tree codes there short lawful =
-    due_found source_name source_limit (tree source_name) source (λ bytes. due_of (after_source (first_violation bytes kernel) bytes kernel next) tree codes) there short
-    ∙ ap (λ v. then_due (read source_name) (due_of (after_source v source kernel next) tree codes)) lawful
+source_due source_name kernel source next tree all there short =
+    due_found source_name source_limit (tree source_name) source (λ bytes. due_of (compiles bytes kernel (after_source bytes next)) tree all) there short
 
--- where no module is made memory is wanting, and else the module decides
-source_status : (source_name kernel source : List ℕ) (next : ModuleOf → Plan) (tree : Tree) (codes : List ModuleOf)
-    → tree source_name ≡ Some source → length source ≤ source_limit → first_violation source kernel ≡ None
-    → AreMade (due_of (source_plan source_name kernel next) tree codes).places
-    → ((code : ModuleOf) (more : List ModuleOf) → IsModule code → IsFaithful source kernel code → (due_of (next code) tree more).status ≡ Done)
-    → ((due_of (source_plan source_name kernel next) tree codes).status ≡ Done) ⊎ ((due_of (source_plan source_name kernel next) tree codes).status ≡ Memory)
-source_status source_name kernel source next tree [] there short lawful are_made ends = inr (ap (λ due. due.status) (source_due source_name kernel source next tree [] there short lawful))
-source_status source_name kernel source next tree (code ∷ more) there short lawful are_made ends =
-    let is = source_due source_name kernel source next tree (code ∷ more) there short lawful in
-    let own : IsModule code × IsFaithful source kernel code × AreMade (due_of (next code) tree more).places = subst (λ due. AreMade due.places) is are_made in
-    inl (ap (λ due. due.status) is ∙ ends code more own.0 own.1)
+-- a source in the profile violates nothing, so a module decides
+lawful_status : (source kernel : List ℕ) (next : ModuleOf → Plan) (tree : Tree) (made : Compilation) (more : List Compilation) → IsInProfile source kernel → IsCompilation source kernel made
+    → ((code : ModuleOf) (more : List Compilation) → IsModule code → IsFaithful source kernel code → (due_of (next code) tree more).status ≡ Done)
+    → (due_of (after_source source next made) tree more).status ≡ Done
+lawful_status source kernel next tree (compiled code) more lawful is ends = ends code more is.0 is.1
+lawful_status source kernel next tree (violated rule at) more lawful is ends = absurd (has_one_violation.none source kernel rule at lawful is)
+
+-- where nothing is made memory is wanting, and else the module decides
+source_status : (source_name kernel source : List ℕ) (next : ModuleOf → Plan) (tree : Tree) (all : List Compilation)
+    → tree source_name ≡ Some source → length source ≤ source_limit → IsInProfile source kernel
+    → AreMade (due_of (source_plan source_name kernel next) tree all).places
+    → ((code : ModuleOf) (more : List Compilation) → IsModule code → IsFaithful source kernel code → (due_of (next code) tree more).status ≡ Done)
+    → ((due_of (source_plan source_name kernel next) tree all).status ≡ Done) ⊎ ((due_of (source_plan source_name kernel next) tree all).status ≡ Memory)
+source_status source_name kernel source next tree [] there short lawful are_made ends = inr (ap (λ due. due.status) (source_due source_name kernel source next tree [] there short))
+source_status source_name kernel source next tree (made ∷ more) there short lawful are_made ends =
+    let is = source_due source_name kernel source next tree (made ∷ more) there short in
+    let own : IsCompilation source kernel made × AreMade (due_of (after_source source next made) tree more).places = subst (λ due. AreMade due.places) is are_made in
+    inl (ap (λ due. due.status) is ∙ lawful_status source kernel next tree made more lawful own.0 ends)
 
 -- ---- `compile`
 
-store_status : (module_name : List ℕ) (code : ModuleOf) (tree : Tree) (codes : List ModuleOf) → (due_of (store_plan module_name code) tree codes).status ≡ Done
+store_status : (module_name : List ℕ) (code : ModuleOf) (tree : Tree) (all : List Compilation) → (due_of (store_plan module_name code) tree all).status ≡ Done
 unfolding store_plan
-store_status module_name code tree codes = refl
+store_status module_name code tree all = refl
 
 compile_done : (source_name kernel module_name source : List ℕ) (tree : Tree) (result : Status)
     → AnswersAsMade (due_of (compile_plan source_name kernel module_name) tree) result
-    → tree source_name ≡ Some source → length source ≤ source_limit → first_violation source kernel ≡ None
+    → tree source_name ≡ Some source → length source ≤ source_limit → IsInProfile source kernel
     → (result ≡ Done) ⊎ (result ≡ Memory)
 unfolding compile_plan
-compile_done source_name kernel module_name source tree result (codes, made, answer) there short lawful =
-    either _ result (source_status source_name kernel source (store_plan module_name) tree codes there short lawful made (λ code more valid faithful. store_status module_name code tree more)) answer
+compile_done source_name kernel module_name source tree result (all, made, answer) there short lawful =
+    either _ result (source_status source_name kernel source (store_plan module_name) tree all there short lawful made (λ code more valid faithful. store_status module_name code tree more)) answer
 
 is_other : (one two : List ℕ) → one ≢ two → bytes_eq one two ≡ false
 is_other one two apart = other_case (bytes_eq one two) (λ e. apart ((bytes_eq-Decides one two).0 e))
@@ -89,7 +96,7 @@ is_other one two apart = other_case (bytes_eq one two) (λ e. apart ((bytes_eq-D
     other_case true never = absurd (never refl)
     other_case false never = refl
 
-compile_form : (verb source_name kernel module_name : List ℕ) → verb ≡ codes "compile" → source_name ≢ module_name
+pub compile_form : (verb source_name kernel module_name : List ℕ) → verb ≡ codes "compile" → source_name ≢ module_name
     → plan_of (verb ∷ source_name ∷ kernel ∷ module_name ∷ []) ≡ Some (compile_plan source_name kernel module_name)
 unfolding plan_of
 compile_form verb source_name kernel module_name is apart =
@@ -118,65 +125,65 @@ runs_compile_ends words before out_before now out_now result h =
 -- ---- the launch
 
 -- a buffer that is there is read
-buffer_status : (size : ℕ) (from to : Option (List ℕ)) (bytes : List ℕ) (next : List ℕ → Plan) (files : FilesState) (tree : Tree) (codes : List ModuleOf)
+buffer_status : (size : ℕ) (from to : Option (List ℕ)) (bytes : List ℕ) (next : List ℕ → Plan) (files : FilesState) (tree : Tree) (all : List Compilation)
     → files.told ≡ Some tree → IsRead files (record { size = size; from = from; to = to }) bytes
-    → (due_of (read_buffer (record { size = size; from = from; to = to }) next) tree codes).status ≡ (due_of (next bytes) tree codes).status
-buffer_status size None to bytes next files tree codes told is = ap (λ bs. (due_of (next bs) tree codes).status) (sym is)
-buffer_status size (Some name) to bytes next files tree codes told (file, holds, few, are, is) =
+    → (due_of (read_buffer (record { size = size; from = from; to = to }) next) tree all).status ≡ (due_of (next bytes) tree all).status
+buffer_status size None to bytes next files tree all told is = ap (λ bs. (due_of (next bs) tree all).status) (sym is)
+buffer_status size (Some name) to bytes next files tree all told (file, holds, few, are, is) =
     let there : tree name ≡ Some file = told_at files.told tree (λ t. t name ≡ Some file) told holds in
-    ap (λ due. due.status) (due_found name size (tree name) file (λ bs. due_of (next (filled size bs)) tree codes) there few)
-    ∙ ap (λ bs. (due_of (next bs) tree codes).status) (sym is)
+    ap (λ due. due.status) (due_found name size (tree name) file (λ bs. due_of (next (filled size bs)) tree all) there few)
+    ∙ ap (λ bs. (due_of (next bs) tree all).status) (sym is)
 
-buffers_status : (lines : List BufferLine) (got buffers : List (List ℕ)) (next : List (List ℕ) → Plan) (files : FilesState) (tree : Tree) (codes : List ModuleOf)
+buffers_status : (lines : List BufferLine) (got buffers : List (List ℕ)) (next : List (List ℕ) → Plan) (files : FilesState) (tree : Tree) (all : List Compilation)
     → files.told ≡ Some tree → AreRead files lines buffers
-    → (due_of (read_buffers lines got next) tree codes).status ≡ (due_of (next (got ++ buffers)) tree codes).status
-buffers_status [] got [] next files tree codes told are = ap (λ bs. (due_of (next bs) tree codes).status) (sym (append-nil got))
-buffers_status [] got (bytes ∷ buffers) next files tree codes told are = absurd are
-buffers_status (line ∷ lines) got [] next files tree codes told are = absurd are
-buffers_status (line ∷ lines) got (bytes ∷ buffers) next files tree codes told are =
-    buffer_status line.size line.from line.to bytes (λ bs. read_buffers lines (got ++ bs ∷ []) next) files tree codes told are.0
-    ∙ buffers_status lines (got ++ bytes ∷ []) buffers next files tree codes told are.1
-    ∙ ap (λ bs. (due_of (next bs) tree codes).status) (append_assoc got (bytes ∷ []) buffers)
+    → (due_of (read_buffers lines got next) tree all).status ≡ (due_of (next (got ++ buffers)) tree all).status
+buffers_status [] got [] next files tree all told are = ap (λ bs. (due_of (next bs) tree all).status) (sym (append-nil got))
+buffers_status [] got (bytes ∷ buffers) next files tree all told are = absurd are
+buffers_status (line ∷ lines) got [] next files tree all told are = absurd are
+buffers_status (line ∷ lines) got (bytes ∷ buffers) next files tree all told are =
+    buffer_status line.size line.from line.to bytes (λ bs. read_buffers lines (got ++ bs ∷ []) next) files tree all told are.0
+    ∙ buffers_status lines (got ++ bytes ∷ []) buffers next files tree all told are.1
+    ∙ ap (λ bs. (due_of (next bs) tree all).status) (append_assoc got (bytes ∷ []) buffers)
 
-write_status : (size : ℕ) (from to : Option (List ℕ)) (bytes : List ℕ) (next : Plan) (tree : Tree) (codes : List ModuleOf) (status : Status)
-    → ((later : Tree) → (due_of next later codes).status ≡ status)
-    → (due_of (write_buffer (record { size = size; from = from; to = to }) bytes next) tree codes).status ≡ status
-write_status size from None bytes next tree codes status h = h tree
-write_status size from (Some name) bytes next tree codes status h = h (with_file name (Some bytes) tree)
+write_status : (size : ℕ) (from to : Option (List ℕ)) (bytes : List ℕ) (next : Plan) (tree : Tree) (all : List Compilation) (status : Status)
+    → ((later : Tree) → (due_of next later all).status ≡ status)
+    → (due_of (write_buffer (record { size = size; from = from; to = to }) bytes next) tree all).status ≡ status
+write_status size from None bytes next tree all status h = h tree
+write_status size from (Some name) bytes next tree all status h = h (with_file name (Some bytes) tree)
 
 -- the writes leave the answer
-writes_status : (lines : List BufferLine) (buffers : List (List ℕ)) (next : Plan) (tree : Tree) (codes : List ModuleOf) (status : Status)
-    → ((later : Tree) → (due_of next later codes).status ≡ status) → (due_of (write_buffers lines buffers next) tree codes).status ≡ status
-writes_status [] buffers next tree codes status h = h tree
-writes_status (line ∷ lines) [] next tree codes status h = h tree
-writes_status (line ∷ lines) (bytes ∷ buffers) next tree codes status h =
-    write_status line.size line.from line.to bytes (write_buffers lines buffers next) tree codes status (λ later. writes_status lines buffers next later codes status h)
+writes_status : (lines : List BufferLine) (buffers : List (List ℕ)) (next : Plan) (tree : Tree) (all : List Compilation) (status : Status)
+    → ((later : Tree) → (due_of next later all).status ≡ status) → (due_of (write_buffers lines buffers next) tree all).status ≡ status
+writes_status [] buffers next tree all status h = h tree
+writes_status (line ∷ lines) [] next tree all status h = h tree
+writes_status (line ∷ lines) (bytes ∷ buffers) next tree all status h =
+    write_status line.size line.from line.to bytes (write_buffers lines buffers next) tree all status (λ later. writes_status lines buffers next later all status h)
 
-report_status : (s : MachineState) (tree : Tree) (codes : List ModuleOf) → stop_of s ≡ stop.Finished → (due_of (report_plan s) tree codes).status ≡ Done
+report_status : (s : MachineState) (tree : Tree) (all : List Compilation) → stop_of s ≡ stop.Finished → (due_of (report_plan s) tree all).status ≡ Done
 unfolding report_plan
-report_status s tree codes is = ap (λ x. status_of (answer_of x)) is
+report_status s tree all is = ap (λ x. status_of (answer_of x)) is
 
-play_status : (s : MachineState) (launch : LaunchOf) (file : List ℕ) (tree : Tree) (codes : List ModuleOf) → stop_of (ran s launch.schedule file) ≡ stop.Finished
-    → (due_of (play_plan s launch file) tree codes).status ≡ Done
+play_status : (s : MachineState) (launch : LaunchOf) (file : List ℕ) (tree : Tree) (all : List Compilation) → stop_of (ran s launch.schedule file) ≡ stop.Finished
+    → (due_of (play_plan s launch file) tree all).status ≡ Done
 unfolding play_plan
-play_status s launch file tree codes is =
+play_status s launch file tree all is =
     let r : MachineState = ran s launch.schedule file in
-    writes_status launch.buffers (buffers_of r) (report_plan r) tree codes Done (λ later. report_status r later codes is)
+    writes_status launch.buffers (buffers_of r) (report_plan r) tree all Done (λ later. report_status r later all is)
 
-launch_status : (taken : List (List ℕ)) (code : ModuleOf) (launch_name text : List ℕ) (buffers : List (List ℕ)) (rounds : ℕ) (files : FilesState) (tree : Tree) (codes : List ModuleOf)
+launch_status : (taken : List (List ℕ)) (code : ModuleOf) (launch_name text : List ℕ) (buffers : List (List ℕ)) (rounds : ℕ) (files : FilesState) (tree : Tree) (all : List Compilation)
     → tree launch_name ≡ Some text → length text ≤ launch_limit → launch_fault text ≡ None → fit_fault (launch_in text) code.kinds taken ≡ None
     → (launch_in text).schedule ≡ Rounds rounds → files.told ≡ Some tree → AreRead files (launch_in text).buffers buffers
     → stop_of (ran (opening_for code (launch_in text) buffers) (launch_in text).schedule []) ≡ stop.Finished
-    → (due_of (launch_plan taken code launch_name) tree codes).status ≡ Done
+    → (due_of (launch_plan taken code launch_name) tree all).status ≡ Done
 unfolding launch_plan fit_plan schedule_plan buffers_plan
-launch_status taken code launch_name text buffers rounds files tree codes there short lawful fits schedule told are finished =
+launch_status taken code launch_name text buffers rounds files tree all there short lawful fits schedule told are finished =
     let launch : LaunchOf = launch_in text in
-    ap (λ due. due.status) (due_found launch_name launch_limit (tree launch_name) text (λ bytes. due_of (after_launch (launch_fault bytes) taken code (launch_in bytes)) tree codes) there short)
-    ∙ ap (λ f. (due_of (after_launch f taken code launch) tree codes).status) lawful
-    ∙ ap (λ f. (due_of (after_fit f code launch) tree codes).status) fits
-    ∙ ap (λ s. (due_of (read_schedule s (buffers_plan code launch)) tree codes).status) schedule
-    ∙ buffers_status launch.buffers [] buffers (ready_plan code launch []) files tree codes told are
-    ∙ play_status (opening_for code launch buffers) launch [] tree codes finished
+    ap (λ due. due.status) (due_found launch_name launch_limit (tree launch_name) text (λ bytes. due_of (after_launch (launch_fault bytes) taken code (launch_in bytes)) tree all) there short)
+    ∙ ap (λ f. (due_of (after_launch f taken code launch) tree all).status) lawful
+    ∙ ap (λ f. (due_of (after_fit f code launch) tree all).status) fits
+    ∙ ap (λ s. (due_of (read_schedule s (buffers_plan code launch)) tree all).status) schedule
+    ∙ buffers_status launch.buffers [] buffers (ready_plan code launch []) files tree all told are
+    ∙ play_status (opening_for code launch buffers) launch [] tree all finished
 
 -- ---- `run`
 
@@ -198,14 +205,14 @@ finishes source kernel code k taken text files faithful is_k lawful fits finite 
     ap stop_of (ran_rounds code launch finite.buffers launch.schedule finite.rounds finite.schedule)
     ∙ (safe_runs_finish source kernel code k faithful is_k (zero_setting code launch finite.buffers) good finite.turns finite.ended finite.safe finite.rounds finite.enough).0
 
-keep_status : (source_name module_name launch_name source kernel text : List ℕ) (k : Kernel) (code : ModuleOf) (tree : Tree) (codes : List ModuleOf)
+keep_status : (source_name module_name launch_name source kernel text : List ℕ) (k : Kernel) (code : ModuleOf) (tree : Tree) (all : List Compilation)
     → IsKernel source kernel k → IsFaithful source kernel code → module_name ≢ launch_name
     → tree launch_name ≡ Some text → length text ≤ launch_limit → launch_fault text ≡ None
     → fit_fault (launch_in text) k.kinds (source_name ∷ module_name ∷ launch_name ∷ []) ≡ None
     → ((files : FilesState) → files.told ≡ Some (with_file module_name (Some (module_bytes code)) tree) → IsFinite k (launch_in text) files)
-    → (due_of (keep_plan (source_name ∷ module_name ∷ launch_name ∷ []) module_name launch_name code) tree codes).status ≡ Done
+    → (due_of (keep_plan (source_name ∷ module_name ∷ launch_name ∷ []) module_name launch_name code) tree all).status ≡ Done
 unfolding keep_plan
-keep_status source_name module_name launch_name source kernel text k code tree codes is_k faithful apart there short lawful fits finite =
+keep_status source_name module_name launch_name source kernel text k code tree all is_k faithful apart there short lawful fits finite =
     let taken : List (List ℕ) = source_name ∷ module_name ∷ launch_name ∷ [] in
     let later : Tree = with_file module_name (Some (module_bytes code)) tree in
     let files : FilesState = record { told = Some later; read_faults = 0; write_faults = 0; misses = 0; over_long = 0; shortages = 0 } in
@@ -213,10 +220,10 @@ keep_status source_name module_name launch_name source kernel text k code tree c
     let fits_code : fit_fault (launch_in text) code.kinds taken ≡ None = subst (λ kinds. fit_fault (launch_in text) kinds taken ≡ None) kinds fits in
     let still : later launch_name ≡ Some text = ap (λ b. cond b (Some (module_bytes code)) (tree launch_name)) (is_other module_name launch_name apart) ∙ there in
     let is : IsFinite k (launch_in text) files = finite files refl in
-    launch_status taken code launch_name text is.buffers is.rounds files later codes still short lawful fits_code is.schedule refl is.contents
+    launch_status taken code launch_name text is.buffers is.rounds files later all still short lawful fits_code is.schedule refl is.contents
     (finishes source kernel code k taken text files faithful is_k lawful fits_code is)
 
-run_form : (verb source_name kernel module_name launch_name : List ℕ) → verb ≡ codes "run" → source_name ≢ module_name → source_name ≢ launch_name → module_name ≢ launch_name
+pub run_form : (verb source_name kernel module_name launch_name : List ℕ) → verb ≡ codes "run" → source_name ≢ module_name → source_name ≢ launch_name → module_name ≢ launch_name
     → plan_of (verb ∷ source_name ∷ kernel ∷ module_name ∷ launch_name ∷ []) ≡ Some (run_plan source_name kernel module_name launch_name)
 unfolding plan_of
 run_form verb source_name kernel module_name launch_name is one two three =

@@ -3,9 +3,8 @@ use Rattle.std.proofs.Common.{◌≡◌, inl, inr, ℕ, ◌≤◌, ◌<◌, Bool
 use Rattle.std.specs.Prelude.{Option, Some, None, IfSome, option_map, nat_le}
 use Rattle.q_io.specs.FilesMeaning.{Tree, with_file, FilesState, FilesCountsStay}
 use Rattle.q_io.specs.SinkMeaning.{SinkState}
-use Rattle.vc4q_module.specs.ModuleBytes.{ModuleOf}
 use Rattle.vc4c_core.specs.Lines.{SaysTrouble}
-use Rattle.vc4c_core.specs.Plan.{Plan, reads, writes, compiles, commits, answers, Ends, GivesUp, StopsAtWrite, ReadTrouble, WriteTrouble}
+use Rattle.vc4c_core.specs.Plan.{Compilation, Plan, reads, writes, compiles, commits, answers, Ends, GivesUp, StopsAtWrite, ReadTrouble, WriteTrouble}
 use Rattle.vc4c_core.specs.Due.{Place, read, write, compile, commit, Due, then_due, trouble_due, due_read, due_of, AreMade, StoppedAt, EndsAsDue, EndsAsMade}
 use Rattle.vc4c_core.specs.declared.status.Status.{Status}
 use Rattle.vc4c_core.specs.declared.places.Trouble.{Trouble}
@@ -20,7 +19,7 @@ earlier_fault (read name) tree first before now trouble counts stopped =
     (stopped.0, elim stopped.1 [ inl h ↦ inl (h.0, omega (arith, h.1)) | inr h ↦ inr (h.0, omega (arith, h.1)) ])
 earlier_fault (write name bytes) tree first before now trouble counts stopped =
     (stopped.0, elim stopped.1 [ inl h ↦ inl (h.0, omega (arith, h.1)) | inr h ↦ inr (h.0, omega (arith, h.1)) ])
-earlier_fault (compile source kernel code) tree first before now trouble counts stopped = stopped
+earlier_fault (compile source kernel made) tree first before now trouble counts stopped = stopped
 earlier_fault commit tree first before now trouble counts stopped = stopped
 
 passes_read : (asks : Bool) (name : List ℕ) (due : Due) (tree : Tree) (first before now : FilesState) (out_before out_now : SinkState) (result : Status)
@@ -77,27 +76,27 @@ passes_write asks name bytes due tree first before now out_before out_now result
       out = h.out;
     }))
 
-passes_compile : (asks : Bool) (source kernel : List ℕ) (code : ModuleOf) (due : Due) (tree : Tree) (before now : FilesState) (out_before out_now : SinkState) (result : Status)
+passes_compile : (asks : Bool) (source kernel : List ℕ) (made : Compilation) (due : Due) (tree : Tree) (before now : FilesState) (out_before out_now : SinkState) (result : Status)
     → EndsAsDue asks due tree before out_before now out_now result
-    → EndsAsDue asks (then_due (compile source kernel code) due) tree before out_before now out_now result
-passes_compile asks source kernel code due tree before now out_before out_now result (inl h) = inl (record { files = h.files; says = h.says })
-passes_compile asks source kernel code due tree before now out_before out_now result (inr (inl h)) =
+    → EndsAsDue asks (then_due (compile source kernel made) due) tree before out_before now out_now result
+passes_compile asks source kernel made due tree before now out_before out_now result (inl h) = inl (record { files = h.files; says = h.says })
+passes_compile asks source kernel made due tree before now out_before out_now result (inr (inl h)) =
     inr (inl (record {
-      passed = compile source kernel code ∷ h.passed;
+      passed = compile source kernel made ∷ h.passed;
       place = h.place;
       rest = h.rest;
-      order = ap (λ ps. compile source kernel code ∷ ps) h.order;
+      order = ap (λ ps. compile source kernel made ∷ ps) h.order;
       trouble = h.trouble;
       stopped = h.stopped;
       says = h.says;
     }))
-passes_compile asks source kernel code due tree before now out_before out_now result (inr (inr h)) =
+passes_compile asks source kernel made due tree before now out_before out_now result (inr (inr h)) =
     inr (inr (record {
       may = h.may;
       is = h.is;
-      passed = compile source kernel code ∷ h.passed;
+      passed = compile source kernel made ∷ h.passed;
       rest = h.rest;
-      order = ap (λ ps. compile source kernel code ∷ ps) h.order;
+      order = ap (λ ps. compile source kernel made ∷ ps) h.order;
       no_step = h.no_step;
       files = h.files;
       out = h.out;
@@ -221,7 +220,7 @@ stops_at_write asks name bytes due tree before now out_before out_now result tol
       says = stop.says;
     }))
 
--- where no module is given, no place makes one
+-- where nothing is made, no place compiles
 read_none_made : (name : List ℕ) (limit : ℕ) (content : Option (List ℕ)) (next : List ℕ → Due) → ((bytes : List ℕ) → AreMade (next bytes).places) → AreMade (due_read name limit content next).places
 read_none_made name limit None next h = tt
 read_none_made name limit (Some bytes) next h =
@@ -234,7 +233,7 @@ none_made (compiles source kernel next) tree = tt
 none_made (commits next) tree = none_made next tree
 none_made (answers answer line) tree = tt
 
--- a run that stops before a module is made
+-- a run that stops before anything is made of a source
 stops : (asks : Bool) (plan : Plan) (tree : Tree) (before : FilesState) (out_before : SinkState) (now : FilesState) (out_now : SinkState) (result : Status)
     → EndsAsDue asks (due_of plan tree []) tree before out_before now out_now result
     → EndsAsMade asks (due_of plan tree) tree before out_before now out_now result
@@ -254,9 +253,9 @@ ends_as_due asks (reads name limit next) tree before out_before now out_now resu
     let has_read = h.2 in
     let is : tree name ≡ Some bytes = told_at before.told tree (λ t. t name ≡ Some bytes) told has_read.holds in
     let rest = ends_as_due asks (next bytes) tree mid out_before now out_now result (has_read.files ∙ told) h.3 in
-    let codes : List ModuleOf = rest.0 in
-    let found = due_found name limit (tree name) bytes (λ b. due_of (next b) tree codes) is has_read.fits in (
-      codes,
+    let all : List Compilation = rest.0 in
+    let found = due_found name limit (tree name) bytes (λ b. due_of (next b) tree all) is has_read.fits in (
+      all,
       subst (λ d. AreMade d.places) (sym found) rest.1,
       subst (λ d. EndsAsDue asks d tree before out_before now out_now result) (sym found) (passes_read asks name _ tree before mid now out_before out_now result has_read.counts rest.2),
     )
@@ -272,8 +271,8 @@ ends_as_due asks (writes name bytes next) tree before out_before now out_now res
 ends_as_due asks (compiles source kernel next) tree before out_before now out_now result told (inl h) =
     stops asks (compiles source kernel next) tree before out_before now out_now result (gives_up asks _ tree before now out_before out_now result told h)
 ends_as_due asks (compiles source kernel next) tree before out_before now out_now result told (inr h) =
-    let rest = ends_as_due asks (next h.0) tree before out_before now out_now result told h.3 in
-    (h.0 ∷ rest.0, (h.1, h.2, rest.1), passes_compile asks source kernel h.0 _ tree before now out_before out_now result rest.2)
+    let rest = ends_as_due asks (next h.0) tree before out_before now out_now result told h.2 in
+    (h.0 ∷ rest.0, (h.1, rest.1), passes_compile asks source kernel h.0 _ tree before now out_before out_now result rest.2)
 ends_as_due asks (commits next) tree before out_before now out_now result told (inl h) =
     stops asks (commits next) tree before out_before now out_now result (gives_up asks _ tree before now out_before out_now result told h)
 ends_as_due asks (commits next) tree before out_before now out_now result told (inr h) =

@@ -15,4 +15,6 @@ pub mod ExecDone
 pub mod LaunchValid
 pub mod Spared
 pub mod RunDone
+pub mod SourceRuns
 pub mod Endings
+pub mod Refusing

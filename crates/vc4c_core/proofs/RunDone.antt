@@ -21,14 +21,12 @@ use Rattle.qpu_machine.specs.declared.state.Step.{Step}
 use Rattle.qpu_machine.specs.declared.state.Stop.{Stop}
 use Rattle.qpu_machine.specs.declared.state.Stop.TheVariants as stop
 use Rattle.vpm_words.specs.declared.state.Rule.{Rule}
-use Rattle.compile_pipe.specs.declared.refusal.Violation.{Violation}
-use Rattle.compile_pipe.specs.Profile.{first_violation}
 use Rattle.compile_pipe.specs.ItemMeaning.{Kernel}
 use Rattle.compile_pipe.specs.LaunchMeaning.{IsSafe}
 use Rattle.compile_pipe.specs.Openings.{Setting, IsSetting, opening_of}
 use Rattle.compile_pipe.specs.Faithful.{KeepsAll}
 use Rattle.compile_pipe.proofs.KernelLaws.{kernels_are_one}
-use Rattle.vc4c_core.specs.Plan.{Plan, Ends, WriteTrouble, status_of}
+use Rattle.vc4c_core.specs.Plan.{Compilation, IsCompilation, compiled, violated, Plan, Ends, WriteTrouble, status_of}
 use Rattle.vc4c_core.specs.Lines.{Says}
 use Rattle.vc4c_core.specs.Buffers.{filled}
 use Rattle.vc4c_core.specs.Openings.{zero_setting, opening_for}
@@ -83,20 +81,19 @@ data SourceEnd (source_name kernel : List ℕ) (next : ModuleOf → Plan) (befor
   made : (source : List ℕ) (code : ModuleOf) (mid : FilesState) → FilesCountsStay before mid → mid.told ≡ before.told → IsMade source_name kernel before source code → Ends true (next code) mid out_before now out_now result
       → SourceEnd source_name kernel next before out_before now out_now result
 
-checked_end : (source_name kernel source : List ℕ) (there : Option Violation) (next : ModuleOf → Plan) (before mid now : FilesState) (out_before out_now : SinkState) (result : Status)
-    → FilesCountsStay before mid → mid.told ≡ before.told → Holds before source_name source → length source ≤ source_limit → first_violation source kernel ≡ there
-    → Ends true (after_source there source kernel next) mid out_before now out_now result → SourceEnd source_name kernel next before out_before now out_now result
-checked_end source_name kernel source None next before mid now out_before out_now result counts same holds short is (inl h) = unmade (short_outside result h.is) (ap (λ f. f.told) h.files ∙ same)
-checked_end source_name kernel source None next before mid now out_before out_now result counts same holds short is (inr (code, valid, faithful, ends)) =
-    made source code mid counts same (record { read = holds; short = short; in_profile = is; valid = valid; faithful = faithful }) ends
-checked_end source_name kernel source (Some violation) next before mid now out_before out_now result counts same holds short is (inl h) = unmade (short_outside result h.is) (ap (λ f. f.told) h.files ∙ same)
-checked_end source_name kernel source (Some violation) next before mid now out_before out_now result counts same holds short is (inr (kept, says)) =
-    elim (says_cases out_before out_now (refused_line source violation.rule violation.at) Refused result says) [
+compiled_end : (source_name kernel source : List ℕ) (all : Compilation) (next : ModuleOf → Plan) (before mid now : FilesState) (out_before out_now : SinkState) (result : Status)
+    → FilesCountsStay before mid → mid.told ≡ before.told → Holds before source_name source → length source ≤ source_limit → IsCompilation source kernel all
+    → Ends true (after_source source next all) mid out_before now out_now result → SourceEnd source_name kernel next before out_before now out_now result
+compiled_end source_name kernel source (compiled code) next before mid now out_before out_now result counts same holds short is ends =
+    made source code mid counts same (record { read = holds; short = short; in_profile = is.1.is_kernel.0; valid = is.0; faithful = is.1 }) ends
+compiled_end source_name kernel source (violated rule at) next before mid now out_before out_now result counts same holds short is (inl h) = unmade (short_outside result h.is) (ap (λ f. f.told) h.files ∙ same)
+compiled_end source_name kernel source (violated rule at) next before mid now out_before out_now result counts same holds short is (inr (kept, says)) =
+    elim (says_cases out_before out_now (refused_line source rule at) Refused result says) [
       | inl h ↦ unmade h (ap (λ f. f.told) kept ∙ same)
       | inr h ↦ unlawful h.0 (record {
         source = source;
-        rule = violation.rule;
-        at = violation.at;
+        rule = rule;
+        at = at;
         read = holds;
         short = short;
         first = is;
@@ -110,8 +107,9 @@ source_end : (source_name kernel : List ℕ) (next : ModuleOf → Plan) (before 
 unfolding source_plan
 source_end source_name kernel next before now out_before out_now result (inl h) = unmade (short_outside result h.is) (ap (λ f. f.told) h.files)
 source_end source_name kernel next before now out_before out_now result (inr (inl h)) = unmade (says_outside out_before out_now _ h.trouble result h.says) h.files
-source_end source_name kernel next before now out_before out_now result (inr (inr (source, mid, read, ends))) =
-    checked_end source_name kernel source (first_violation source kernel) next before mid now out_before out_now result read.counts read.files read.holds read.fits refl ends
+source_end source_name kernel next before now out_before out_now result (inr (inr (source, mid, read, inl h))) = unmade (short_outside result h.is) (ap (λ f. f.told) h.files ∙ read.files)
+source_end source_name kernel next before now out_before out_now result (inr (inr (source, mid, read, inr (all, is, ends)))) =
+    compiled_end source_name kernel source all next before mid now out_before out_now result read.counts read.files read.holds read.fits is ends
 
 -- ---- `compile`
 

@@ -6,7 +6,7 @@ use Rattle.q_io.specs.FilesMeaning.{with_file, FilesState, FilesCountsStay}
 use Rattle.q_io.specs.SinkMeaning.{SinkState, PutsAll}
 use Rattle.q_io.specs.declared.Put.{Put}
 use Rattle.q_io.specs.declared.Put.TheVariants.{Done as WasPut, Failed as PutFailed, Memory as PutShort}
-use Rattle.vc4c_core.specs.Plan.{Plan, reads, writes, compiles, commits, answers, Ends, WriteTrouble}
+use Rattle.vc4c_core.specs.Plan.{Compilation, compiled, violated, Plan, reads, writes, compiles, commits, answers, Ends, WriteTrouble}
 use Rattle.vc4c_core.specs.Lines.{SaysTrouble, trouble_line, status_after}
 use Rattle.vc4c_core.specs.Due.{KeptBut, ShortOrKept}
 use Rattle.vc4c_core.specs.Commands.{Runs, plan_of, are_apart, first_written}
@@ -20,8 +20,6 @@ use Rattle.launch_file.specs.Fit.{FaultAt, fit_fault}
 use Rattle.vc4q_module.specs.ModuleBytes.{ModuleOf, module_in, first_fault as module_fault}
 use Rattle.vc4c_core.specs.Buffers.{filled, read_buffer, read_buffers}
 use Rattle.vc4c_core.specs.Exec.{exec_plan, module_plan, after_module, launch_plan, after_launch, fit_plan, after_fit, schedule_plan, buffers_plan, ready_plan, read_schedule}
-use Rattle.compile_pipe.specs.declared.refusal.Violation.{Violation}
-use Rattle.compile_pipe.specs.Profile.{first_violation}
 use Rattle.vc4c_core.specs.Compile.{after_source, source_plan, store_plan, compile_plan, keep_plan, run_plan}
 use Rattle.vc4c_core.proofs.Causes.{EndCause}
 use Rattle.vc4c_core.proofs.Caused.{ends_caused}
@@ -36,7 +34,7 @@ pub WritesLate : Option (List ℕ) → Plan → Type 0
 WritesLate first (reads name limit next) = (bytes : List ℕ) → WritesLate first (next bytes)
 WritesLate None (writes name bytes next) = ⊥
 WritesLate (Some first) (writes name bytes next) = (name ≡ first) × WritesLate None next
-WritesLate first (compiles source kernel next) = (code : ModuleOf) → WritesLate first (next code)
+WritesLate first (compiles source kernel next) = (made : Compilation) → WritesLate first (next made)
 WritesLate first (commits next) = ⊤
 WritesLate first (answers answer line) = ⊤
 
@@ -115,7 +113,7 @@ ends_short (Some first) (writes name bytes next) before out_before now out_now r
     subst (λ n. ShortOrKept (Some n) before out_before now out_now) late.0
     (short_written name bytes before h.0 now out_before out_now h.1.counts h.1.files (ends_short None next h.0 out_before now out_now result late.1 h.2 e))
 ends_short first (compiles source kernel next) before out_before now out_now result late (inl h) e = inr (inr (kept_all first before now (ap (λ f. f.told) h.files), h.out))
-ends_short first (compiles source kernel next) before out_before now out_now result late (inr h) e = ends_short first (next h.0) before out_before now out_now result (late h.0) h.3 e
+ends_short first (compiles source kernel next) before out_before now out_now result late (inr h) e = ends_short first (next h.0) before out_before now out_now result (late h.0) h.2 e
 ends_short first (commits next) before out_before now out_now result late (inl h) e = inr (inr (kept_all first before now (ap (λ f. f.told) h.files), h.out))
 ends_short first (commits next) before out_before now out_now result late (inr h) e =
     short_by _ _ _ _ (subst (λ s. EndCause false before out_before now out_now s) e (ends_caused false next before out_before now out_now result h))
@@ -168,21 +166,21 @@ exec_late : (module_name launch_name : List ℕ) → WritesLate None (exec_plan 
 unfolding WritesLate exec_plan module_plan
 exec_late module_name launch_name = λ bytes. module_late (module_fault bytes) (module_name ∷ launch_name ∷ []) (module_in bytes) launch_name
 
-source_late : (first : Option (List ℕ)) (there : Option Violation) (source kernel : List ℕ) (next : ModuleOf → Plan) → ((code : ModuleOf) → WritesLate first (next code)) → WritesLate first (after_source there source kernel next)
+source_late : (first : Option (List ℕ)) (source : List ℕ) (next : ModuleOf → Plan) → ((code : ModuleOf) → WritesLate first (next code)) → (made : Compilation) → WritesLate first (after_source source next made)
 unfolding WritesLate
-source_late first None source kernel next h = h
-source_late first (Some violation) source kernel next h = tt
+source_late first source next h (compiled code) = h code
+source_late first source next h (violated rule at) = tt
 
 compile_late : (source_name kernel module_name : List ℕ) → WritesLate None (compile_plan source_name kernel module_name)
 unfolding WritesLate compile_plan source_plan store_plan
-compile_late source_name kernel module_name = λ source. source_late None (first_violation source kernel) source kernel (store_plan module_name) (λ code. tt)
+compile_late source_name kernel module_name = λ source made. source_late None source (store_plan module_name) (λ code. tt) made
 
 run_late : (source_name kernel module_name launch_name : List ℕ) → WritesLate (Some module_name) (run_plan source_name kernel module_name launch_name)
 unfolding WritesLate run_plan source_plan keep_plan launch_plan
 run_late source_name kernel module_name launch_name =
     let taken : List (List ℕ) = source_name ∷ module_name ∷ launch_name ∷ [] in
-    λ source. source_late (Some module_name) (first_violation source kernel) source kernel (keep_plan taken module_name launch_name)
-    (λ code. (refl, λ bytes. text_late (launch_fault bytes) taken code (launch_in bytes)))
+    λ source made. source_late (Some module_name) source (keep_plan taken module_name launch_name)
+    (λ code. (refl, λ bytes. text_late (launch_fault bytes) taken code (launch_in bytes))) made
 
 exec_words : (verb same : Bool) (module_name launch_name : List ℕ) → IfSome (cond verb (cond same None (Some (exec_plan module_name launch_name))) None) (WritesLate None)
 exec_words true true module_name launch_name = tt

@@ -15,7 +15,7 @@ use Rattle.launch_file.specs.Fit.{FaultAt, fit_fault}
 use Rattle.launch_file.proofs.FitLaws.{no_fault_is_fit}
 use Rattle.vc4q_module.specs.ModuleBytes.{ModuleOf}
 use Rattle.compile_pipe.specs.Faithful.{buffers_of}
-use Rattle.vc4c_core.specs.Plan.{Plan, reads, writes, compiles, commits, answers, Ends}
+use Rattle.vc4c_core.specs.Plan.{Compilation, Plan, reads, writes, compiles, commits, answers, Ends}
 use Rattle.vc4c_core.specs.Buffers.{filled, read_buffer, read_buffers, write_buffer, write_buffers}
 use Rattle.vc4c_core.specs.Openings.{opening_for}
 use Rattle.vc4c_core.specs.Play.{ran, report_plan, play_plan}
@@ -26,7 +26,7 @@ use Rattle.vc4c_core.specs.declared.status.Status.{Status}
 pub Spares : List ℕ → Plan → Type 0
 Spares name (reads other limit next) = (bytes : List ℕ) → Spares name (next bytes)
 Spares name (writes other bytes next) = (bytes_eq other name ≡ false) × Spares name next
-Spares name (compiles source kernel next) = (code : ModuleOf) → Spares name (next code)
+Spares name (compiles source kernel next) = (made : Compilation) → Spares name (next made)
 Spares name (commits next) = Spares name next
 Spares name (answers answer line) = ⊤
 
@@ -55,7 +55,7 @@ ends_spare asks name bytes (writes other written next) before out_before now out
     ends_spare asks name bytes next h.0 out_before now out_now result spares.1 h.2 (holds_beside before h.0 other name bytes (Some written) spares.0 h.1.files is)
 ends_spare asks name bytes (compiles source kernel next) before out_before now out_now result spares (inl h) is = holds_same before now name bytes (ap (λ f. f.told) h.files) is
 ends_spare asks name bytes (compiles source kernel next) before out_before now out_now result spares (inr h) is =
-    ends_spare asks name bytes (next h.0) before out_before now out_now result (spares h.0) h.3 is
+    ends_spare asks name bytes (next h.0) before out_before now out_now result (spares h.0) h.2 is
 ends_spare asks name bytes (commits next) before out_before now out_now result spares (inl h) is = holds_same before now name bytes (ap (λ f. f.told) h.files) is
 ends_spare asks name bytes (commits next) before out_before now out_now result spares (inr h) is = ends_spare false name bytes next before out_before now out_now result spares h is
 ends_spare asks name bytes (answers answer line) before out_before now out_now result spares (inl h) is = holds_same before now name bytes (ap (λ f. f.told) h.files) is

@@ -3,9 +3,8 @@ use Rattle.std.specs.Prelude.{◌≡◌, ℕ, Bool, true, not, ◌&&◌, List, [
 use Rattle.q_io.specs.FilesMeaning.{Tree, FilesState}
 use Rattle.q_io.specs.SinkMeaning.{SinkState}
 use Rattle.vc4c_core.specs.Lines.{Says}
-use Rattle.vc4c_core.specs.Plan.{Plan, Ends}
+use Rattle.vc4c_core.specs.Plan.{Compilation, Plan, Ends}
 use Rattle.vc4c_core.specs.Due.{Due, due_of}
-use Rattle.vc4q_module.specs.ModuleBytes.{ModuleOf}
 use Rattle.vc4c_core.specs.Exec.{exec_plan}
 use Rattle.vc4c_core.specs.Compile.{compile_plan, run_plan}
 use Rattle.vc4c_core.specs.declared.command.Command.{Command}
@@ -36,10 +35,10 @@ plan_of_command (Run source_name kernel module_name launch_name) = run_plan sour
 unfoldable pub usage_line : List ℕ
 usage_line = codes "usage: compile SRC KERNEL MODULE | exec MODULE LAUNCH | run SRC KERNEL MODULE LAUNCH | judge SRC KERNEL LAUNCH TURNS | disasm MODULE | demo SEED\n"
 
--- what is due of these words where these modules are made
-abbrev pub due_for : Option Plan → Tree → List ModuleOf → Due
-due_for None tree codes = record { places = []; status = Usage; line = usage_line }
-due_for (Some plan) tree codes = due_of plan tree codes
+-- what is due of these words where this is made of their sources
+abbrev pub due_for : Option Plan → Tree → List Compilation → Due
+due_for None tree all = record { places = []; status = Usage; line = usage_line }
+due_for (Some plan) tree all = due_of plan tree all
 
 -- a run of the program
 abbrev pub Runs : Option Plan → FilesState → SinkState → FilesState → SinkState → Status → Type 0

@@ -1,14 +1,12 @@
 -- The commands `compile` and `run`: their places.
-use Rattle.std.specs.Prelude.{◌≡◌, ℕ, List, [], ◌∷◌, ◌++◌, length, Option, Some, None, codes, decimal}
+use Rattle.std.specs.Prelude.{◌≡◌, ℕ, List, [], ◌∷◌, ◌++◌, length, codes, decimal}
 use Rattle.q_io.specs.SinkMeaning.{SinkState}
 use Rattle.vc4q_module.specs.ModuleBytes.{ModuleOf, module_bytes}
 use Rattle.compile_pipe.specs.declared.refusal.Refusal.{Refusal}
 use Rattle.compile_pipe.specs.declared.refusal.Refusal.TheVariants.{Rule, Memory as CompileMemory}
-use Rattle.compile_pipe.specs.declared.refusal.Violation.{Violation}
-use Rattle.compile_pipe.specs.Profile.{first_violation}
 use Rattle.vc4c_core.specs.Lines.{Says}
 use Rattle.vc4c_core.specs.Refusals.{refused_line}
-use Rattle.vc4c_core.specs.Plan.{Plan, reads, writes, compiles, commits, answers, done, refused}
+use Rattle.vc4c_core.specs.Plan.{Compilation, compiled, violated, Plan, reads, writes, compiles, commits, answers, done, refused}
 use Rattle.vc4c_core.specs.Exec.{launch_plan}
 use Rattle.vc4c_core.specs.declared.status.Status.{Status}
 use Rattle.vc4c_core.specs.declared.status.Status.TheVariants.{Memory, Refused}
@@ -20,14 +18,14 @@ source_limit = 1048576
 unfoldable pub compiled_line : ModuleOf → List ℕ
 compiled_line code = codes "module " ++ (decimal (length code.words) ++ (codes " words " ++ (decimal code.rows ++ codes " rows\n")))
 
--- the source is refused with the rule that it violates first, or a module is made of it
-abbrev pub after_source : Option Violation → (source kernel : List ℕ) → (ModuleOf → Plan) → Plan
-after_source (Some violation) source kernel next = answers refused (refused_line source violation.rule violation.at)
-after_source None source kernel next = compiles source kernel next
+-- a module is taken further, and a source that violates a rule is refused with it
+abbrev pub after_source : (source : List ℕ) → (ModuleOf → Plan) → Compilation → Plan
+after_source source next (compiled code) = next code
+after_source source next (violated rule at) = answers refused (refused_line source rule at)
 
 -- from the read of the source on
 unfoldable pub source_plan : (source_name kernel : List ℕ) → (ModuleOf → Plan) → Plan
-source_plan source_name kernel next = reads source_name source_limit (λ source. after_source (first_violation source kernel) source kernel next)
+source_plan source_name kernel next = reads source_name source_limit (λ source. compiles source kernel (after_source source next))
 
 -- the module is written, and its line
 unfoldable pub store_plan : List ℕ → ModuleOf → Plan

@@ -10,7 +10,7 @@ use Rattle.launch_file.specs.Rules.{first_fault as launch_fault}
 use Rattle.launch_file.specs.Fit.{fit_fault}
 use Rattle.vc4q_module.specs.ModuleBytes.{ModuleOf, IsModule, module_bytes}
 use Rattle.compile_pipe.specs.declared.refusal.SourceRule.{SourceRule}
-use Rattle.compile_pipe.specs.Profile.{first_violation, IsInProfile}
+use Rattle.compile_pipe.specs.Profile.{IsInProfile, IsFirstViolation}
 use Rattle.compile_pipe.specs.ItemMeaning.{Ended, Kernel, IsKernel}
 use Rattle.compile_pipe.specs.LaunchMeaning.{left_by, turns_of, IsSafe}
 use Rattle.compile_pipe.specs.Faithful.{most_steps, IsFaithful}
@@ -45,7 +45,7 @@ pub record RefusedSource (source_name kernel : List ℕ) (before : FilesState) (
   pub at : ℕ
   pub read : Holds before source_name source
   pub short : length source ≤ source_limit
-  pub first : first_violation source kernel ≡ Some (record { rule = rule; at = at })
+  pub first : IsFirstViolation source kernel rule at
   pub files : now.told ≡ before.told
   pub line : Gains out_before out_now (refused_line source rule at)
 
@@ -109,6 +109,20 @@ CompileEnds source_name kernel module_name tree result =
     (source : List ℕ) → source_name ≢ module_name
     → tree source_name ≡ Some source → length source ≤ source_limit → IsInProfile source kernel
     → (result ≡ Done) ⊎ (result ≡ Memory)
+
+-- A `compile` of a source that violates a rule is refused, or wants memory.
+abbrev pub CompileRefuses : (source_name kernel module_name : List ℕ) → Tree → Status → Type 0
+CompileRefuses source_name kernel module_name tree result =
+    (source : List ℕ) (rule : SourceRule) (at : ℕ) → source_name ≢ module_name
+    → tree source_name ≡ Some source → length source ≤ source_limit → IsFirstViolation source kernel rule at
+    → (result ≡ Refused) ⊎ (result ≡ Memory)
+
+-- And so is a `run`, whatever its launch.
+abbrev pub RunRefuses : (source_name kernel module_name launch_name : List ℕ) → Tree → Status → Type 0
+RunRefuses source_name kernel module_name launch_name tree result =
+    (source : List ℕ) (rule : SourceRule) (at : ℕ) → source_name ≢ module_name → source_name ≢ launch_name → module_name ≢ launch_name
+    → tree source_name ≡ Some source → length source ≤ source_limit → IsFirstViolation source kernel rule at
+    → (result ≡ Refused) ⊎ (result ≡ Memory)
 
 -- The files of a launch's buffers are there, the kernel's launch is safe with them, and its rounds are as many as the bound of its steps.
 pub record IsFinite (k : Kernel) (launch : LaunchOf) (files : FilesState) : Type 0 where

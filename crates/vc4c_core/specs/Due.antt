@@ -3,9 +3,7 @@ use Rattle.std.specs.Prelude.{◌≡◌, ◌⊎◌, ℕ, Bool, true, false, List
 use Rattle.q_io.specs.Rose.{Rose}
 use Rattle.q_io.specs.FilesMeaning.{Tree, with_file, FilesState}
 use Rattle.q_io.specs.SinkMeaning.{SinkState}
-use Rattle.vc4q_module.specs.ModuleBytes.{ModuleOf, IsModule}
-use Rattle.compile_pipe.specs.Faithful.{IsFaithful}
-use Rattle.vc4c_core.specs.Plan.{Plan, reads, writes, compiles, commits, answers, status_of}
+use Rattle.vc4c_core.specs.Plan.{Compilation, IsCompilation, Plan, reads, writes, compiles, commits, answers, status_of}
 use Rattle.vc4c_core.specs.Lines.{Says, SaysTrouble, trouble_line, trouble_status}
 use Rattle.vc4c_core.specs.declared.status.Status.{Status}
 use Rattle.vc4c_core.specs.declared.status.Status.TheVariants.{Memory}
@@ -16,8 +14,8 @@ use Rattle.vc4c_core.specs.declared.places.Trouble.TheVariants.{Missing as IsMis
 pub data Place : Type 0 where
   read : (name : List ℕ) → Place
   write : (name bytes : List ℕ) → Place
-  -- this module is made of the source
-  compile : (source kernel : List ℕ) (code : ModuleOf) → Place
+  -- this is made of the source
+  compile : (source kernel : List ℕ) (made : Compilation) → Place
   -- from here on no memory is asked for
   commit : Place
 
@@ -38,22 +36,22 @@ abbrev pub due_read : List ℕ → ℕ → Option (List ℕ) → (List ℕ → D
 due_read name limit None next = trouble_due IsMissing name
 due_read name limit (Some bytes) next = if nat_le (length bytes) limit then then_due (read name) (next bytes) else trouble_due IsTooLong name
 
--- what is due of a plan with these files, where it is these modules that are made of its sources, one after another: the first place where a name
--- isn't there, its file passes the limit or a rule is violated, else the answer of the run. Where no further module is made, memory is wanting
-abbrev pub due_of : Plan → Tree → List ModuleOf → Due
-due_of (reads name limit next) tree codes = due_read name limit (tree name) (λ bytes. due_of (next bytes) tree codes)
-due_of (writes name bytes next) tree codes = then_due (write name bytes) (due_of next (with_file name (Some bytes) tree) codes)
+-- what is due of a plan with these files, where this is made of its sources, one after another: the first place where a name isn't there, its file
+-- passes the limit or a rule is violated, else the answer of the run. Where no more is made, memory is wanting
+abbrev pub due_of : Plan → Tree → List Compilation → Due
+due_of (reads name limit next) tree all = due_read name limit (tree name) (λ bytes. due_of (next bytes) tree all)
+due_of (writes name bytes next) tree all = then_due (write name bytes) (due_of next (with_file name (Some bytes) tree) all)
 due_of (compiles source kernel next) tree [] = record { places = []; status = Memory; line = [] }
-due_of (compiles source kernel next) tree (code ∷ codes) = then_due (compile source kernel code) (due_of (next code) tree codes)
-due_of (commits next) tree codes = then_due commit (due_of next tree codes)
-due_of (answers answer line) tree codes = record { places = []; status = status_of answer; line = line }
+due_of (compiles source kernel next) tree (made ∷ all) = then_due (compile source kernel made) (due_of (next made) tree all)
+due_of (commits next) tree all = then_due commit (due_of next tree all)
+due_of (answers answer line) tree all = record { places = []; status = status_of answer; line = line }
 
--- each module is one, and is faithful to its source
+-- what is made of each source is a compilation of it
 abbrev pub AreMade : List Place → Type 0
 AreMade [] = ⊤
 AreMade (read name ∷ places) = AreMade places
 AreMade (write name bytes ∷ places) = AreMade places
-AreMade (compile source kernel code ∷ places) = IsModule code × IsFaithful source kernel code × AreMade places
+AreMade (compile source kernel made ∷ places) = IsCompilation source kernel made × AreMade places
 AreMade (commit ∷ places) = AreMade places
 
 -- the files after these places
@@ -61,7 +59,7 @@ abbrev pub after : List Place → Tree → Tree
 after [] tree = tree
 after (read name ∷ places) tree = after places tree
 after (write name bytes ∷ places) tree = after places (with_file name (Some bytes) tree)
-after (compile source kernel code ∷ places) tree = after places tree
+after (compile source kernel made ∷ places) tree = after places tree
 after (commit ∷ places) tree = after places tree
 
 -- none of these places writes this file
@@ -69,7 +67,7 @@ abbrev pub spares : List ℕ → List Place → Bool
 spares name [] = true
 spares name (read other ∷ places) = spares name places
 spares name (write other bytes ∷ places) = if bytes_eq other name then false else spares name places
-spares name (compile source kernel code ∷ places) = spares name places
+spares name (compile source kernel made ∷ places) = spares name places
 spares name (commit ∷ places) = spares name places
 
 -- a file that none of these places writes is as it was
@@ -82,7 +80,7 @@ abbrev pub has_committed : List Place → Bool
 has_committed [] = false
 has_committed (read name ∷ places) = has_committed places
 has_committed (write name bytes ∷ places) = has_committed places
-has_committed (compile source kernel code ∷ places) = has_committed places
+has_committed (compile source kernel made ∷ places) = has_committed places
 has_committed (commit ∷ places) = true
 
 -- a place where a fault stopped the command, its cause and what it left of the files: a file whose write failed may hold anything
@@ -95,13 +93,13 @@ StoppedAt (write name bytes) tree before now trouble =
     ((left : Option (List ℕ)) × (now.told ≡ Some (with_file name left tree)))
     × (((trouble ≡ IsWriteFault) × Rose before.write_faults now.write_faults)
     ⊎ ((trouble ≡ IsMemory) × Rose before.shortages now.shortages))
-StoppedAt (compile source kernel code) tree before now trouble = ⊥
+StoppedAt (compile source kernel made) tree before now trouble = ⊥
 StoppedAt commit tree before now trouble = ⊥
 
 abbrev pub name_of : Place → List ℕ
 name_of (read name) = name
 name_of (write name bytes) = name
-name_of (compile source kernel code) = []
+name_of (compile source kernel made) = []
 name_of commit = []
 
 -- all places were passed, and the answer is the one that is due
@@ -137,10 +135,10 @@ EndsAsDue asks due tree before out_before now out_now result =
     ⊎ (AtFault due tree before now out_before out_now result
     ⊎ ShortOfMemory asks due tree now out_before out_now result)
 
--- how a command ends of which this is due where it makes these modules: it makes some, each faithful to its source
-abbrev pub EndsAsMade : Bool → (List ModuleOf → Due) → Tree → FilesState → SinkState → FilesState → SinkState → Status → Type 0
+-- how a command ends of which this is due where this is made of its sources
+abbrev pub EndsAsMade : Bool → (List Compilation → Due) → Tree → FilesState → SinkState → FilesState → SinkState → Status → Type 0
 EndsAsMade asks due tree before out_before now out_now result =
-    (codes : List ModuleOf) × AreMade (due codes).places × EndsAsDue asks (due codes) tree before out_before now out_now result
+    (all : List Compilation) × AreMade (due all).places × EndsAsDue asks (due all) tree before out_before now out_now result
 
 -- no fault of the files or the sink came
 pub record IsQuiet (before : FilesState) (out_before : SinkState) (now : FilesState) (out_now : SinkState) : Type 0 where
@@ -148,13 +146,13 @@ pub record IsQuiet (before : FilesState) (out_before : SinkState) (now : FilesSt
   pub writes : ¬ (Rose before.write_faults now.write_faults)
   pub sink : ¬ (Rose out_before.faults out_now.faults)
 
--- the status is the one that is due with the modules that are made, or want of memory
-abbrev pub AnswersAsMade : (List ModuleOf → Due) → Status → Type 0
-AnswersAsMade due result = (codes : List ModuleOf) × AreMade (due codes).places × ((result ≡ (due codes).status) ⊎ (result ≡ Memory))
+-- the status is the one that is due with what is made of the sources, or want of memory
+abbrev pub AnswersAsMade : (List Compilation → Due) → Status → Type 0
+AnswersAsMade due result = (all : List Compilation) × AreMade (due all).places × ((result ≡ (due all).status) ⊎ (result ≡ Memory))
 
--- no file has changed but those that are due to be written with the modules that are made
-abbrev pub OnlyWritesMade : (List ModuleOf → Due) → Tree → FilesState → Type 0
-OnlyWritesMade due tree now = (codes : List ModuleOf) × AreMade (due codes).places × OnlyWrites (due codes).places tree now
+-- no file has changed but those that are due to be written with what is made of the sources
+abbrev pub OnlyWritesMade : (List Compilation → Due) → Tree → FilesState → Type 0
+OnlyWritesMade due tree now = (all : List Compilation) × AreMade (due all).places × OnlyWrites (due all).places tree now
 
 -- no file has changed, but for this one, if any, that was written
 abbrev pub KeptBut : Option (List ℕ) → FilesState → FilesState → Type 0

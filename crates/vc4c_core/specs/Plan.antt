@@ -4,6 +4,8 @@ use Rattle.q_io.specs.Rose.{Rose}
 use Rattle.q_io.specs.FilesMeaning.{FilesState, FilesCountsStay, Holds, Lacks, Passes, Spoils, with_file}
 use Rattle.q_io.specs.SinkMeaning.{SinkState}
 use Rattle.vc4q_module.specs.ModuleBytes.{ModuleOf, IsModule}
+use Rattle.compile_pipe.specs.declared.refusal.SourceRule.{SourceRule}
+use Rattle.compile_pipe.specs.Profile.{IsFirstViolation}
 use Rattle.compile_pipe.specs.Faithful.{IsFaithful}
 use Rattle.vc4c_core.specs.Lines.{Says, SaysTrouble}
 use Rattle.vc4c_core.specs.declared.status.Status.{Status}
@@ -28,14 +30,24 @@ status_of bad_launch = BadLaunch
 status_of broken = Broken
 status_of unfinished = Unfinished
 
+-- what is made of a source: a module, or none, since this rule is violated at this byte
+pub data Compilation : Type 0 where
+  compiled : (code : ModuleOf) → Compilation
+  violated : (rule : SourceRule) (at : ℕ) → Compilation
+
+-- a module is one and is faithful to the kernel of that name in the source, and a rule is the first that is violated
+abbrev pub IsCompilation : (source kernel : List ℕ) → Compilation → Type 0
+IsCompilation source kernel (compiled code) = IsModule code × IsFaithful source kernel code
+IsCompilation source kernel (violated rule at) = IsFirstViolation source kernel rule at
+
 -- what a command has still to do
 pub data Plan : Type 0 where
   -- it reads a file of at most so many bytes, and goes on with these
   reads : (name : List ℕ) (limit : ℕ) (next : List ℕ → Plan) → Plan
   -- it writes a file
   writes : (name bytes : List ℕ) (next : Plan) → Plan
-  -- it makes a module of a source that is in the profile, and goes on with the module
-  compiles : (source kernel : List ℕ) (next : ModuleOf → Plan) → Plan
+  -- it compiles the kernel of that name in a source, and goes on with what is made of it
+  compiles : (source kernel : List ℕ) (next : Compilation → Plan) → Plan
   -- from here on it asks for no memory: the machine's first step, or the write of a module that isn't run
   commits : (next : Plan) → Plan
   -- it writes its line and ends
@@ -93,7 +105,7 @@ pub record GivesUp (asks : Bool) (before now : FilesState) (out_before out_now :
   pub files : now ≡ before
   pub out : out_now ≡ out_before
 
--- A run of what is still to do, from these files and this sink to those, with this result. Of a source some faithful module is made.
+-- A run of what is still to do, from these files and this sink to those, with this result. What is made of a source is a compilation of it.
 abbrev pub Ends : Bool → Plan → FilesState → SinkState → FilesState → SinkState → Status → Type 0
 Ends asks (reads name limit next) before out_before now out_now result =
     GivesUp asks before now out_before out_now result
@@ -105,7 +117,7 @@ Ends asks (writes name bytes next) before out_before now out_now result =
     ⊎ ((mid : FilesState) × HasWritten before mid name bytes × Ends asks next mid out_before now out_now result))
 Ends asks (compiles source kernel next) before out_before now out_now result =
     GivesUp asks before now out_before out_now result
-    ⊎ ((code : ModuleOf) × IsModule code × IsFaithful source kernel code × Ends asks (next code) before out_before now out_now result)
+    ⊎ ((made : Compilation) × IsCompilation source kernel made × Ends asks (next made) before out_before now out_now result)
 Ends asks (commits next) before out_before now out_now result =
     GivesUp asks before now out_before out_now result
     ⊎ Ends false next before out_before now out_now result

@@ -2,7 +2,7 @@
 use Rattle.std.specs.Prelude.{ℕ, ◌+◌, List, ◌++◌, length, take, reverse, codes, decimal, not, ◌==◌}
 use Rattle.std.specs.List.{filter, prefix_len}
 use Rattle.compile_pipe.specs.declared.refusal.SourceRule.{SourceRule}
-use Rattle.compile_pipe.specs.declared.refusal.SourceRule.TheVariants.{G1, K1}
+use Rattle.compile_pipe.specs.RuleNames.{name_of}
 
 -- the line that begins or goes on behind these bytes: one more than the bytes 10 among them
 unfoldable pub line_behind : List ℕ → ℕ
@@ -16,11 +16,7 @@ column_behind bytes = 1 + prefix_len (λ byte. not (byte == 10)) (reverse bytes)
 abbrev pub line_col : List ℕ → ℕ → ℕ × ℕ
 line_col source at = (line_behind (take at source), column_behind (take at source))
 
-abbrev pub source_rule_text : SourceRule → List ℕ
-source_rule_text G1 = codes "G1"
-source_rule_text K1 = codes "K1"
-
 -- the line of a source that violates this rule first, at this byte
 unfoldable pub refused_line : List ℕ → SourceRule → ℕ → List ℕ
 refused_line source rule at =
-    codes "refused " ++ (source_rule_text rule ++ (codes " " ++ (decimal (line_col source at).0 ++ (codes " " ++ (decimal (line_col source at).1 ++ codes "\n")))))
+    codes "refused " ++ (name_of rule ++ (codes " " ++ (decimal (line_col source at).0 ++ (codes " " ++ (decimal (line_col source at).1 ++ codes "\n")))))

@@ -86,13 +86,21 @@ fn sources_and_launches(rt: HostRuntime) -> Result<(), Fail> {
         ),
         (
             "compile s f m",
+            "int g(int x){return x+1;}\nkernel void f(){}\nkernel void h(global int*a){a[0]=g(1);}\n",
+            "",
+            0,
+            COMPILED,
+            true,
+        ),
+        (
+            "compile s f m",
             "kernel void f(){};",
             "",
             7,
-            "refused G1 1 1/",
+            "refused G1 1 18/",
             false,
         ),
-        ("compile s f m", "", "", 7, "refused G1 1 1/", false),
+        ("compile s f m", "", "", 7, "refused K1 1 1/", false),
         ("compile s h m", SOURCE, "", 7, "refused K1 1 1/", false),
         ("compile none f m", SOURCE, "", 5, "missing none/", false),
         ("run s f m l", SOURCE, LAUNCH, 0, REPORT, true),
@@ -157,6 +165,72 @@ fn sources_and_launches(rt: HostRuntime) -> Result<(), Fail> {
         );
         let holds: &[u8] = if *written { &compiled } else { &[] };
         assert!(rt; after.as_slice() == holds, "{line}, {text}");
+    }
+    Ok(())
+}
+
+/// Seventeen functions, each of which calls the one before it, and a kernel.
+fn chain(alloc: Global) -> Result<String, AllocError> {
+    let mut text = String::from_str(alloc, "void f0(){}\n")?;
+    for k in 1..17u32 {
+        text.push_str(&format!(in alloc; "void f{k}(){{f{}();}}\n", k - 1)?)?;
+    }
+    text.push_str("kernel void k(){}")?;
+    Ok(text)
+}
+
+/// A kernel whose one statement is a name in so many pairs of parentheses.
+fn nested(alloc: Global, pairs: usize) -> Result<String, AllocError> {
+    let mut text = String::from_str(alloc, "kernel void f(int a){")?;
+    for _ in 0..pairs {
+        text.push_str("(")?;
+    }
+    text.push_str("a")?;
+    for _ in 0..pairs {
+        text.push_str(")")?;
+    }
+    text.push_str(";}")?;
+    Ok(text)
+}
+
+#[test]
+fn sources_that_are_refused(rt: HostRuntime) -> Result<(), Fail> {
+    let alloc = rt.alloc();
+    let chain = chain(alloc)?;
+    let too_deep = nested(alloc, 64)?;
+    let deep = nested(alloc, 63)?;
+    let rows: &[(&str, &str)] = &[
+        (
+            "kernel void f(global int*a){\na[0]=b;\n@}",
+            "refused L2 3 1/",
+        ),
+        (
+            "kernel void q(global uint*o){o[0]=2147483648;}",
+            "refused L3 1 35/",
+        ),
+        ("kernel void f(){/*", "refused L4 1 17/"),
+        (
+            "kernel void f(global int*a){a[0]=a[1]+;}",
+            "refused G1 1 39/",
+        ),
+        ("kernel void f(int a){a+a=1;}", "refused G1 1 25/"),
+        ("kernel void f(){", "refused G1 1 17/"),
+        ("kernel void f(){\n", "refused G1 2 1/"),
+        (&too_deep, "refused G2 1 86/"),
+        ("kernel void f(global int*a){a[0]=b;}", "refused S1 1 34/"),
+        (&chain, "refused S9 17 12/"),
+        ("kernel void h(){}", "refused K1 1 1/"),
+        ("kernel void f(){;}", "refused N0 1 13/"),
+        (&deep, "refused N0 1 13/"),
+    ];
+    for (source, text) in rows {
+        let (got, taken, after) = answer(alloc, "compile s f m", source, "", &[], &[])?;
+        assert_eq!(rt; got, 7, "{text}");
+        assert!(rt;
+            taken.as_slice() == lines_of(alloc, text)?.as_slice(),
+            "{text}"
+        );
+        assert!(rt; after.is_empty(), "{text}");
     }
     Ok(())
 }
@@ -249,7 +323,7 @@ fn twelve_qpus_and_a_buffer_that_is_not_written(rt: HostRuntime) -> Result<(), F
 fn sources_at_their_limit(rt: HostRuntime) -> Result<(), Fail> {
     let alloc = rt.alloc();
     for (len, want, text) in [
-        (1_048_576, 7, b"refused G1 1 1\n".as_slice()),
+        (1_048_576, 7, b"refused L1 1 65537\n".as_slice()),
         (1_048_577, 6, b"too long s\n".as_slice()),
     ] {
         let mut tree = BTreeMap::new(alloc);

@@ -7,7 +7,7 @@ ghost use Rattle.vc4c_core.specs.Commands.{plan_of, due_for, usage_line, Runs, f
 ghost use Rattle.vc4c_core.specs.Due.{EndsAsMade, AnswersAsMade, OnlyWritesMade, IsQuiet, ShortOrKept};
 ghost use Rattle.vc4c_core.specs.Lines.{Says};
 ghost use Rattle.vc4c_core.specs.ExecClauses.{ExecAnswers};
-ghost use Rattle.vc4c_core.specs.CompileClauses.{CompileAnswers, RunAnswers, CompileEnds, RunEnds};
+ghost use Rattle.vc4c_core.specs.CompileClauses.{CompileAnswers, RunAnswers, CompileEnds, CompileRefuses, RunEnds, RunRefuses};
 
 use crate::command::{Command, command_of};
 use crate::compiling::compile_file;
@@ -159,6 +159,16 @@ pub fn run<F: Files, S: Sink>(alloc: Global, words: &[String], files: &mut F, ou
         IsQuiet (F.state files.old) (S.state out.old) (F.state files.new) (S.state out.new)
         → IfRun (map string_bytes words.now) (λ source_name kernel module_name launch_name.
         RunEnds source_name kernel module_name launch_name tree result)) }
+
+    // A source that violates a rule is refused then, or memory is wanting.
+    ensures compile_refuses { IfSome (F.state files.old).told (λ tree.
+        IsQuiet (F.state files.old) (S.state out.old) (F.state files.new) (S.state out.new)
+        → IfCompile (map string_bytes words.now) (λ source_name kernel module_name.
+        CompileRefuses source_name kernel module_name tree result)) }
+    ensures run_refuses { IfSome (F.state files.old).told (λ tree.
+        IsQuiet (F.state files.old) (S.state out.old) (F.state files.new) (S.state out.new)
+        → IfRun (map string_bytes words.now) (λ source_name kernel module_name launch_name.
+        RunRefuses source_name kernel module_name launch_name tree result)) }
 
     // Told or not, it goes through the places in their order.
     ensures order { Runs (plan_of (map string_bytes words.now))

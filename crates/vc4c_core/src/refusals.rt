@@ -1,7 +1,7 @@
 //! The line of a source that isn't in the profile.
 
 ghost use Rattle.std.specs.Prelude.{◌≡◌, take};
-ghost use Rattle.vc4c_core.specs.Refusals.{line_col as line_col_of, source_rule_text, refused_line};
+ghost use Rattle.vc4c_core.specs.Refusals.{line_col as line_col_of, refused_line};
 
 use crate::lines::{Line, push_number, push_text};
 use arrayvec::ArrayVec;
@@ -37,15 +37,6 @@ pub fn line_col(source: &[u8], at: u32) -> (u64, u64)
     (line, column)
 }
 
-fn text_of_source_rule(rule: SourceRule) -> &'static [u8]
-    ensures { result.now ≡ source_rule_text rule }
-{
-    match rule {
-        SourceRule::G1 => b"G1",
-        SourceRule::K1 => b"K1",
-    }
-}
-
 /// The line of a source that violates this rule first, at this byte.
 #[tactic(auto, unfolding(crate::specs::Refusals::refused_line))]
 pub fn line_of_refusal(source: &[u8], rule: SourceRule, at: u32) -> Line
@@ -54,7 +45,7 @@ pub fn line_of_refusal(source: &[u8], rule: SourceRule, at: u32) -> Line
     let (source_line, column) = line_col(source, at);
     let mut line = ArrayVec::new();
     push_text(&mut line, b"refused ");
-    push_text(&mut line, text_of_source_rule(rule));
+    push_text(&mut line, rule.name());
     push_text(&mut line, b" ");
     push_number(&mut line, source_line);
     push_text(&mut line, b" ");

@@ -3,6 +3,7 @@ use Rattle.vc4c_core.proofs.Shortage.{runs_short}
 use Rattle.vc4c_core.proofs.ExecDone.{runs_answers}
 use Rattle.vc4c_core.proofs.RunDone.{runs_compile, runs_run}
 use Rattle.vc4c_core.proofs.Endings.{runs_compile_ends, runs_run_ends}
+use Rattle.vc4c_core.proofs.Refusing.{runs_compile_refuses, runs_run_refuses}
 use Rattle.vc4c_core.proofs.run.Goals as goal
 
 pub returns : goal.returns
@@ -24,5 +25,7 @@ returns g c =
       quiet = runs_quiet _ _ _ _ _ _ c.run_words.ensures;
       compile_ends = runs_compile_ends _ _ _ _ _ _ c.run_words.ensures;
       run_ends = runs_run_ends _ _ _ _ _ _ c.run_words.ensures;
+      compile_refuses = runs_compile_refuses _ _ _ _ _ _ c.run_words.ensures;
+      run_refuses = runs_run_refuses _ _ _ _ _ _ c.run_words.ensures;
       order = c.run_words.ensures;
     }

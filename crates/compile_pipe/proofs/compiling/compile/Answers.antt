@@ -1,7 +1,8 @@
-use Rattle.std.proofs.Common.{◌∙◌, sym, subst}
-use Rattle.compile_pipe.specs.Faithful.{IsFaithful}
-use Rattle.compile_pipe.proofs.EmptyFaithful.{empty_is_faithful}
+use Rattle.compile_pipe.proofs.Violations.{only_rule, only_made}
 use Rattle.compile_pipe.proofs.compiling.compile.Goals as goal
 
-pub returns-in-Ok-clause-faithful : goal.returns-in-Ok-clause-faithful
-returns-in-Ok-clause-faithful c = subst (IsFaithful c.args.source.now c.args.kernel.now) (sym c.in-Ok.ensures) (empty_is_faithful c.args.source.now c.args.kernel.now (sym c.first_violation.ensures ∙ c.in_default.is))
+pub returns-clause-violated : goal.returns-clause-violated
+returns-clause-violated c = only_rule c.args.source.now c.args.kernel.now c.module_of.result c.module_of.ensures.profile c.module_of.ensures.refused
+
+pub returns-clause-lawful : goal.returns-clause-lawful
+returns-clause-lawful c = only_made c.args.source.now c.args.kernel.now c.module_of.result c.module_of.ensures.refused

@@ -1,0 +1,167 @@
+-- What the front end's answers say of a source.
+use Rattle.std.proofs.Common.{◌≡◌, ℕ, zero, suc, ◌+◌, ◌<◌, ◌≤◌, ◌^◌, List, [], ◌∷◌, ◌++◌, length, get_or, Bool, true, false, refl, sym, ap, ◌∙◌, subst, arith, inl, inr}
+use Rattle.std.specs.Prelude.{◌&&◌, Some, slice_get, bytes_eq, Result, Ok, Err, if◌then◌else◌, map}
+use Rattle.std.proofs.lemmas.Bool.{cases_lt}
+use Rattle.std.proofs.lemmas.List.{length-append}
+use Rattle.clc_lexer.specs.declared.token.Token.{Token}
+use Rattle.clc_lexer.specs.declared.token.LexRule.TheVariants as lex
+use Rattle.clc_lexer.specs.SourceText.{HasNoFault}
+use Rattle.clc_lexer.proofs.LexedOnce.{tokens_within}
+use Rattle.clc_tree.specs.declared.functions.Function.{Function}
+use Rattle.clc_tree.specs.declared.functions.Tree.{Tree}
+use Rattle.clc_tree.specs.Flat.{joined, optional_tokens, returns_tokens, params_tokens, block_tokens, function_tokens, flat_of}
+use Rattle.clc_types.specs.declared.forms.Fault.{Fault}
+use Rattle.clc_types.specs.declared.typed.TFunction.{TFunction}
+use Rattle.clc_types.specs.declared.typed.Typed.{Typed}
+use Rattle.clc_types.specs.declared.typed.TypeFault.TheVariants.{Rule}
+use Rattle.clc_types.specs.Judged.{Judged, Fine, Faulty, both, next, IsLeast}
+use Rattle.clc_types.specs.Programs.{program, kernel_of, Judges, Before, function_at, functions_at, function_piece, with_function, no_function}
+use Rattle.compile_pipe.specs.declared.refusal.SourceRule.{SourceRule}
+use Rattle.compile_pipe.specs.declared.refusal.Refusal.{Refusal}
+use Rattle.compile_pipe.specs.declared.refusal.Refusal.TheVariants.{Rule as Refused}
+use Rattle.compile_pipe.specs.Profile.{place_of, IsSpelled, IsWanted, IsFirstViolation}
+
+-- ---- sizes
+
+pub short_source : (source : List ℕ) → HasNoFault source → length source ≤ 65536
+short_source source h = elim (cases_lt 65536 (length source)) [ inl long ↦ absurd (h lex.L1 65536 (long, refl)) | inr short ↦ short ]
+
+pub short_enough : (source : List ℕ) → HasNoFault source → length source < 2 ^ 32
+short_enough source h = let short = short_source source h in omega (arith, short)
+
+pub few_tokens : (source : List ℕ) (ts : List Token) → IsSpelled source ts → length ts < 2 ^ 32
+few_tokens source ts h =
+    let short = short_source source h.lawful in
+    let within = (tokens_within source ts h.lexed).1 in
+    omega (arith, short, within)
+
+-- a program has a token for each of its functions at least
+some_tokens : (f : Function) → 1 ≤ length (function_tokens f)
+some_tokens f =
+    let rest = returns_tokens f.returns ++ f.name ∷ f.opening ∷ (params_tokens f.params ++ f.closing ∷ block_tokens f.body) in
+    let named = f.name ∷ f.opening ∷ (params_tokens f.params ++ f.closing ∷ block_tokens f.body) in
+    let one = length-append (optional_tokens f.lead) rest in
+    let two = length-append (returns_tokens f.returns) named in
+    let some : 1 ≤ length named = omega arith in
+    omega (arith, one, two, some)
+
+few_functions : (fs : List Function) → length fs ≤ length (joined (map function_tokens fs))
+few_functions [] = omega arith
+few_functions (f ∷ fs) =
+    let rest = few_functions fs in
+    let one = some_tokens f in
+    let all = length-append (function_tokens f) (joined (map function_tokens fs)) in
+    omega (arith, rest, one, all)
+
+both_fine : {A B : Type 0} (a : Judged A) (b : Judged B) (y : A × B) → both a b ≡ Fine y → b ≡ Fine y.1
+both_fine (Fine a) (Fine b) y e = cc
+both_fine (Fine a) (Faulty g gs) y e = absurd cc
+both_fine (Faulty f fs) (Fine b) y e = absurd cc
+both_fine (Faulty f fs) (Faulty g gs) y e = absurd cc
+
+one_longer : (a : Judged TFunction) (b : Judged (List TFunction)) (n : ℕ) (gs : List TFunction) → ((hs : List TFunction) → b ≡ Fine hs → length hs ≡ n)
+    → next (both a b) (λ y. Fine (y.0 ∷ y.1)) ≡ Fine gs → length gs ≡ suc n
+one_longer (Fine a) (Fine hs) n gs many e =
+    let is : gs ≡ a ∷ hs = cc in
+    ap length is ∙ ap suc (many hs refl)
+one_longer (Fine a) (Faulty g more) n gs many e = absurd cc
+one_longer (Faulty f fs) (Fine hs) n gs many e = absurd cc
+one_longer (Faulty f fs) (Faulty g more) n gs many e = absurd cc
+
+as_many : (before : Before) (p : ℕ) (fs : List Function) (gs : List TFunction) → functions_at before p fs ≡ Fine gs → length gs ≡ length fs
+as_many before p [] gs e = let none : gs ≡ [] = cc in ap length none
+as_many before p (f ∷ more) gs e =
+    one_longer (function_at before p f) (functions_at (with_function before p f) (p + (function_piece before.names f).tokens) more) (length more) gs
+    (λ hs is. as_many (with_function before p f) (p + (function_piece before.names f).tokens) more hs is) e
+
+functions_fine : (j : Judged (List TFunction)) (typed : Typed) → next j (λ fs. Fine (record { functions = fs })) ≡ Fine typed → j ≡ Fine typed.functions
+functions_fine (Fine fs) typed e = let is : typed ≡ record { functions = fs } = cc in sym (ap (λ t. Fine t.functions) is)
+functions_fine (Faulty f fs) typed e = absurd cc
+
+pub few_typed : (source : List ℕ) (ts : List Token) (tree : Tree) (typed : Typed) → IsSpelled source ts → flat_of tree ≡ ts → program tree ≡ Fine typed
+    → length typed.functions < 2 ^ 32
+few_typed source ts tree typed h flat fine =
+    let few = few_tokens source ts h in
+    let same = as_many no_function 0 tree.functions typed.functions (functions_fine (functions_at no_function 0 tree.functions) typed fine) in
+    let more = few_functions tree.functions in
+    let all = ap length flat in
+    omega (arith, few, same, more, all)
+
+-- ---- places
+
+pub place_found : (source : List ℕ) (ts : List Token) (k : ℕ) (t : Token) → k < length ts → t ≡ get_or ts k t → t.from ≡ place_of source ts k
+place_found source [] k t within is = absurd (omega (arith, within))
+place_found source (x ∷ ts) zero t within is = ap (λ y. y.from) is
+place_found source (x ∷ ts) (suc k) t within is = place_found source ts k t (omega (arith, within)) is
+
+pub place_past : (source : List ℕ) (ts : List Token) (k : ℕ) → length ts ≤ k → length source ≡ place_of source ts k
+place_past source [] k past = refl
+place_past source (x ∷ ts) zero past = absurd (omega (arith, past))
+place_past source (x ∷ ts) (suc k) past = place_past source ts k (omega (arith, past))
+
+pub rule_past : (rules : List SourceRule) (k : ℕ) (last : SourceRule) → length rules ≤ k → last ≡ get_or rules k last
+rule_past [] k last past = refl
+rule_past (rule ∷ rules) zero last past = absurd (omega (arith, past))
+rule_past (rule ∷ rules) (suc k) last past = rule_past rules k last (omega (arith, past))
+
+-- ---- what was checked
+
+pub checked_fine : (j : Judged Typed) (typed : Typed) → Judges j (Ok typed) → j ≡ Fine typed
+checked_fine (Fine a) typed h = ap Fine h
+checked_fine (Faulty f fs) typed h = absurd h
+
+abbrev pub HasLeast : Judged Typed → Fault → Type 0
+HasLeast j first = (one : Fault) × (more : List Fault) × (j ≡ Faulty one more) × IsLeast first (one ∷ more)
+
+pub checked_faulty : (j : Judged Typed) (rule token : ℕ) → Judges j (Err (Rule rule token)) → HasLeast j (record { token = token; rule = rule })
+checked_faulty (Fine a) rule token h = absurd h
+checked_faulty (Faulty f fs) rule token h = (f, fs, refl, h)
+
+-- ---- the wanted kernel
+
+abbrev pub IsAt : List TFunction → ℕ → ℕ → Type 0
+IsAt fs n k = (i : ℕ) × (f : TFunction) × (k ≡ n + i) × (slice_get fs i ≡ Some f) × (i < length fs)
+
+at_next : (f : TFunction) (fs : List TFunction) (n k : ℕ) → IsAt fs (suc n) k → IsAt (f ∷ fs) n k
+at_next f fs n k (i, g, same, there, within) = (suc i, g, omega (arith, same), there, omega (arith, within))
+
+named_or : (f : TFunction) (fs : List TFunction) (n : ℕ) (x : List ℕ) (k : ℕ) (b : Bool) → (kernel_of (suc n) fs x ≡ Some k → IsAt fs (suc n) k)
+    → (if b then Some n else kernel_of (suc n) fs x) ≡ Some k → IsAt (f ∷ fs) n k
+named_or f fs n x k true later e = let is : n ≡ k = cc in (0, f, omega (arith, is), refl, omega arith)
+named_or f fs n x k false later e = at_next f fs n k (later e)
+
+kernel_at : (n : ℕ) (fs : List TFunction) (x : List ℕ) (k : ℕ) → kernel_of n fs x ≡ Some k → IsAt fs n k
+kernel_at n [] x k e = absurd cc
+kernel_at n (f ∷ fs) x k e = named_or f fs n x k (f.kernel && bytes_eq f.name x) (λ d. kernel_at (suc n) fs x k d) e
+
+pub kernel_there : (fs : List TFunction) (x : List ℕ) (k : ℕ) (g : TFunction) → kernel_of 0 fs x ≡ Some k → g ≡ get_or fs k g → slice_get fs k ≡ Some g
+kernel_there fs x k g e is =
+    let at = kernel_at 0 fs x k e in
+    let same : k ≡ at.0 = (let sum = at.2 in omega (arith, sum)) in
+    let there : slice_get fs k ≡ Some at.1 = ap (slice_get fs) same ∙ at.3 in
+    there ∙ sym (ap Some (is ∙ got fs k at.1 g there))
+  where
+    got : (fs : List TFunction) (k : ℕ) (f g : TFunction) → slice_get fs k ≡ Some f → get_or fs k g ≡ f
+    got [] k f g e = absurd cc
+    got (x ∷ fs) zero f g e = cc
+    got (x ∷ fs) (suc k) f g e = got fs k f g e
+
+pub kernel_within : (fs : List TFunction) (x : List ℕ) (k : ℕ) → kernel_of 0 fs x ≡ Some k → k < length fs
+kernel_within fs x k e =
+    let at = kernel_at 0 fs x k e in
+    let same = at.2 in
+    let less = at.4 in
+    omega (arith, same, less)
+
+pub wanted : (typed : Typed) (x : List ℕ) (k : ℕ) (f : TFunction) → kernel_of 0 typed.functions x ≡ Some k → f ≡ get_or typed.functions k f → IsWanted typed x f
+wanted typed x k f e is = record { number = k; named = e; there = kernel_there typed.functions x k f e is }
+
+-- ---- refusals
+
+-- what was refused is what is told
+pub told : {T : Type 0} (source kernel : List ℕ) (rule other : SourceRule) (at place : ℕ) → ◌≡◌ {A = Result T Refusal} (Err (Refused rule at)) (Err (Refused other place))
+    → IsFirstViolation source kernel rule at → IsFirstViolation source kernel other place
+told source kernel rule other at place e h =
+    let same_rule : rule ≡ other = cc in
+    let same_place : at ≡ place = cc in
+    subst (λ r. IsFirstViolation source kernel r place) same_rule (subst (IsFirstViolation source kernel rule) same_place h)
