@@ -16,6 +16,3 @@ mod words;
 
 pub use programs::{check, kernel};
 pub use typed::{Builtin, Node, TExpr, TFunction, TStmt, Ty, TypeFault, Typed, Var};
-
-#[cfg(test)]
-mod tests;
