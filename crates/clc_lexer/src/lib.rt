@@ -29,6 +29,3 @@ pub use place::line_col;
 pub use text::Text;
 pub use token::{LexFault, LexRule, Tok, Token};
 pub use words::Word;
-
-#[cfg(test)]
-mod tests;

@@ -4,11 +4,11 @@ use Rattle.clc_reading.specs.Reading.{Reason, Wrong, Deep, Outcome, Got, Stops, 
 use Rattle.clc_reading.proofs.Verdict.{whole_fault, whole_got}
 use Rattle.clc_lexer.specs.declared.token.Token.{Token}
 use Rattle.clc_tree.specs.ProgramRules.{program}
-use Rattle.clc_tree.proofs.ProgramsExact.{tree_lang, program_exact}
+use Rattle.clc_grammar_laws.proofs.ProgramsExact.{tree_lang, program_exact}
 use Rattle.clc_tree.specs.declared.functions.Tree.{Tree}
 use Rattle.clc_parser.specs.SourceTree.{IsText, FaultAt, IsFirstFault, fault_at}
 use Rattle.clc_tree.specs.SourceText.{IsTreeOf}
-use Rattle.clc_tree.proofs.FlatIs.{flat_tree}
+use Rattle.clc_grammar_laws.proofs.FlatIs.{flat_tree}
 use Rattle.clc_parser.specs.Reads.{StopsAt}
 use Rattle.clc_parser.specs.declared.tokens.Stop.{Stop}
 use Rattle.clc_parser.specs.declared.tokens.Stop.TheVariants as stop

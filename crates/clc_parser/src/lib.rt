@@ -5,8 +5,6 @@ mod declarations;
 mod expressions;
 mod functions;
 mod statements;
-#[cfg(test)]
-mod tests;
 mod tokens;
 
 ghost use Rattle.std.specs.Prelude.{◌≡◌, ◌<◌, ◌^◌, IfOk, IfErr, length};

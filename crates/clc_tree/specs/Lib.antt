@@ -6,5 +6,4 @@ pub mod StatementRules
 pub mod Programs
 pub mod ProgramRules
 pub mod Flat
-pub mod Proper
 pub mod SourceText

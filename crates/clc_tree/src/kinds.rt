@@ -116,7 +116,7 @@ pub fn rank(mark: Mark) -> u8
 }
 
 /// The rank of a token as a binary operator, 10 where it is none.
-pub(crate) fn operator_rank(token: &Token) -> u8
+pub fn operator_rank(token: &Token) -> u8
     ensures value { result ≡ Rattle.clc_tree.specs.Kinds.rank token.now }
     ensures most { result ≤ 10 }
 {

@@ -1,29 +1,2 @@
-mod Keys
 mod Finding
 pub mod Scopes
-pub mod Steps
-pub mod Least
-pub mod Needs
-pub mod Agree
-pub mod Parts
-pub mod Whole
-pub mod Force
-pub mod Pieces
-pub mod Standing
-pub mod Body
-pub mod Parameters
-pub mod Headings
-pub mod Openings
-pub mod Functions
-pub mod FunctionMet
-pub mod Sizes
-pub mod Prefixes
-pub mod Lengths
-pub mod PieceSizes
-pub mod BlockLengths
-pub mod ProgramMet
-pub mod Listed
-pub mod ForParts
-pub mod Heads
-pub mod Entries
-pub mod WalkRules

@@ -1,6 +1,5 @@
 -- What the checker answers, where the walk goes right or wrong. Memory may always run out.
 use Rattle.std.specs.Prelude.{◌≡◌, ℕ, Option, Some, None, Ok, Err, Result, List, [], ◌∷◌, Vec}
-use Rattle.clc_types.specs.declared.forms.Fault.{Fault}
 use Rattle.clc_types.specs.declared.typed.TypeFault.{TypeFault}
 use Rattle.clc_types.specs.declared.typed.TypeFault.TheVariants.{Rule, Memory}
 use Rattle.clc_types.specs.Walk.{Walked, Right, Wrong}

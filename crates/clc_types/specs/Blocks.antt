@@ -2,7 +2,6 @@
 -- 6.7 and 6.8).
 use Rattle.std.specs.Prelude.{ℕ, suc, ◌+◌, Bool, true, false, not, ◌&&◌, ◌||◌, if◌then◌else◌, bytes_eq, nat_eq, nat_lt, nat_le, List, [], ◌∷◌, ◌++◌, Option, Some, None, is_some, map}
 use Rattle.clc_lexer.specs.declared.token.Token.{Token}
-use Rattle.clc_tree.specs.declared.expressions.Scalar.{Scalar as Written}
 use Rattle.clc_tree.specs.declared.expressions.Expr.{Expr}
 use Rattle.clc_tree.specs.declared.statements.Pointer.{Pointer}
 use Rattle.clc_tree.specs.declared.statements.Init.{Init}
@@ -26,8 +25,7 @@ use Rattle.clc_types.specs.declared.forms.Shape.TheVariants as shape
 use Rattle.clc_types.specs.declared.forms.Kind.{Kind}
 use Rattle.clc_types.specs.declared.forms.Named.{Named}
 use Rattle.clc_types.specs.declared.forms.Named.TheVariants as nm
-use Rattle.clc_types.specs.declared.forms.Form.{Form}
-use Rattle.clc_types.specs.Judged.{Judged, Fine, Faulty, both, next, unless, violations, Context, Part, one}
+use Rattle.clc_types.specs.Judged.{Judged, Fine, both, next, unless, violations, Context, Part, one}
 use Rattle.clc_types.specs.Words.{name_of, value_of, type_of, type_tokens, space_in, one_if}
 use Rattle.clc_types.specs.Rules.{kind_of, scalar_needed, no_array, fit_needed, return_needs, bare_needs, is_size}
 use Rattle.clc_types.specs.Names.{or_else}

@@ -1,5 +1,5 @@
 -- The faults of functions and of a whole program, and its typed tree (OpenCL C 1.2, 6.7 and 6.9; C99, 6.2.1 and 6.9).
-use Rattle.std.specs.Prelude.{◌≡◌, ℕ, suc, ◌+◌, min, Bool, true, false, not, ◌&&◌, ◌||◌, eqb, bytes_eq, if◌then◌else◌, List, [], ◌∷◌, ◌++◌, Option, Some, None, is_some, length, map, Result, Ok, Err}
+use Rattle.std.specs.Prelude.{◌≡◌, ℕ, suc, ◌+◌, min, false, ◌&&◌, eqb, bytes_eq, if◌then◌else◌, List, [], ◌∷◌, ◌++◌, Option, Some, None, is_some, length, map, Result, Ok, Err}
 use Rattle.clc_lexer.specs.declared.token.Token.{Token}
 use Rattle.clc_tree.specs.declared.functions.Param.{Param}
 use Rattle.clc_tree.specs.declared.functions.Param.TheVariants as param
@@ -17,11 +17,9 @@ use Rattle.clc_types.specs.declared.typed.TFunction.{TFunction}
 use Rattle.clc_types.specs.declared.typed.Typed.{Typed}
 use Rattle.clc_types.specs.declared.typed.TypeFault.{TypeFault}
 use Rattle.clc_types.specs.declared.typed.TypeFault.TheVariants.{Rule, Memory}
-use Rattle.clc_types.specs.declared.forms.Fault.{Fault}
 use Rattle.clc_types.specs.declared.forms.Shape.{Shape}
 use Rattle.clc_types.specs.declared.forms.Shape.TheVariants as shape
 use Rattle.clc_types.specs.declared.forms.Named.{Named}
-use Rattle.clc_types.specs.declared.forms.Named.TheVariants as nm
 use Rattle.clc_types.specs.declared.forms.Signature.{Signature}
 use Rattle.clc_types.specs.declared.forms.Home.{Home}
 use Rattle.clc_types.specs.Judged.{Judged, Fine, Faulty, both, next, unless, violations, Context, Part, IsLeast}
@@ -29,7 +27,7 @@ use Rattle.clc_types.specs.Words.{name_of, type_of, type_tokens, one_if, is_kern
 use Rattle.clc_types.specs.Rules.{var_of}
 use Rattle.clc_types.specs.Heights.{stmt_reach}
 use Rattle.clc_types.specs.Names.{or_else, outermost}
-use Rattle.clc_types.specs.Blocks.{Decl, last_visible, Around, Piece, nothing, quiet, past, ending, seq, made, declared, pointer_shape, pointer_tokens, block}
+use Rattle.clc_types.specs.Blocks.{Decl, last_visible, Piece, nothing, quiet, past, ending, seq, made, declared, pointer_shape, pointer_tokens, block}
 
 -- what is in force at a token: all declarations are looked through
 abbrev pub in_force : List Decl → List (List ℕ) → ℕ → List ℕ → Option Named

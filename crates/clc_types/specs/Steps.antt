@@ -1,5 +1,5 @@
 -- The walk over statements, with the open blocks and the variables so far.
-use Rattle.std.specs.Prelude.{◌≡◌, ℕ, ◌+◌, min, Bool, true, false, not, ◌||◌, List, [], ◌∷◌, ◌++◌, Option, Some, None, is_some, length, map, Result, Ok, Err}
+use Rattle.std.specs.Prelude.{◌≡◌, ℕ, ◌+◌, min, Bool, true, false, not, List, [], ◌∷◌, ◌++◌, Option, Some, None, is_some, length, map, Result, Ok, Err}
 use Rattle.clc_lexer.specs.declared.token.Token.{Token}
 use Rattle.clc_tree.specs.declared.expressions.Expr.{Expr}
 use Rattle.clc_tree.specs.declared.statements.Init.{Init}

@@ -1,33 +1,18 @@
 -- The faults of expressions, and their typed forms (OpenCL C 1.2, 6.2 and 6.3; C99, 6.5).
-use Rattle.std.specs.Prelude.{ℕ, ◌+◌, Bool, true, false, List, [], ◌∷◌, ◌++◌, Option, Some, None, slice_get, map}
+use Rattle.std.specs.Prelude.{ℕ, ◌+◌, true, false, List, [], ◌∷◌, ◌++◌, Option, Some, None, slice_get, map}
 use Rattle.clc_lexer.specs.declared.token.Token.{Token}
 use Rattle.clc_lexer.specs.declared.marks.Mark.{Mark}
 use Rattle.clc_lexer.specs.declared.marks.Mark.TheVariants as m
 use Rattle.clc_tree.specs.declared.expressions.Assign.{Assign}
-use Rattle.clc_tree.specs.declared.expressions.Cast.{Cast}
-use Rattle.clc_tree.specs.declared.expressions.Chain.{Chain}
-use Rattle.clc_tree.specs.declared.expressions.PostStep.{PostStep}
-use Rattle.clc_tree.specs.declared.expressions.Primary.{Primary}
-use Rattle.clc_tree.specs.declared.expressions.Unary.{Unary}
-use Rattle.clc_tree.specs.declared.expressions.ChainStep.{ChainStep}
-use Rattle.clc_tree.specs.declared.expressions.Choice.{Choice}
-use Rattle.clc_tree.specs.declared.expressions.CommaStep.{CommaStep}
-use Rattle.clc_tree.specs.declared.expressions.Cond.{Cond}
 use Rattle.clc_tree.specs.declared.expressions.Expr.{Expr}
-use Rattle.clc_tree.specs.declared.expressions.Post.{Post}
 use Rattle.clc_tree.specs.declared.expressions.Scalar.{Scalar as Written}
 use Rattle.clc_tree.specs.declared.expressions.Assign.TheOpen as o
 use Rattle.clc_tree.specs.declared.expressions.Assign.TheOpen.{Assign-F, Cast-F, Chain-F, PostStep-F, Primary-F, Unary-F, ChainStep-F, Choice-F, CommaStep-F, Cond-F, Expr-F, Post-F}
 use Rattle.clc_tree.specs.declared.expressions.Assign.TheFolds.{fold-Assign, fold-Expr}
-use Rattle.q_lane.specs.declared.kinds.Scalar.{Scalar}
-use Rattle.q_lane.specs.declared.kinds.Scalar.TheVariants.{Int}
 use Rattle.clc_types.specs.declared.typed.Builtin.{Builtin}
-use Rattle.clc_types.specs.declared.typed.Builtin.TheVariants as b
 use Rattle.clc_types.specs.declared.typed.Node.{Node}
 use Rattle.clc_types.specs.declared.typed.Node.TheVariants as n
-use Rattle.clc_types.specs.declared.typed.Ty.{Ty}
 use Rattle.clc_types.specs.declared.typed.TExpr.{TExpr, roll-TExpr, out-TExpr}
-use Rattle.clc_types.specs.declared.forms.Fault.{Fault}
 use Rattle.clc_types.specs.declared.forms.Shape.{Shape}
 use Rattle.clc_types.specs.declared.forms.Kind.{Kind}
 use Rattle.clc_types.specs.declared.forms.Kind.TheVariants as k

@@ -1,5 +1,5 @@
 -- The walk over an expression: it stops at the first fault, and counts the tokens on its way.
-use Rattle.std.specs.Prelude.{ℕ, ◌+◌, min, Bool, true, false, List, [], ◌∷◌, ◌++◌, Option, Some, None, slice_get, map}
+use Rattle.std.specs.Prelude.{ℕ, ◌+◌, min, List, [], ◌∷◌, ◌++◌, Option, Some, None, slice_get, map}
 use Rattle.clc_lexer.specs.declared.token.Token.{Token}
 use Rattle.clc_lexer.specs.declared.marks.Mark.{Mark}
 use Rattle.clc_lexer.specs.declared.marks.Mark.TheVariants as m

@@ -1,6 +1,5 @@
 -- The walk over functions and a program.
-use Rattle.std.specs.Prelude.{◌≡◌, ℕ, suc, ◌+◌, min, Bool, true, false, not, ◌&&◌, ◌||◌, eqb, List, [], ◌∷◌, ◌++◌, Option, Some, None, is_some, length, map, Result, Ok, Err}
-use Rattle.clc_lexer.specs.declared.token.Token.{Token}
+use Rattle.std.specs.Prelude.{ℕ, suc, ◌+◌, min, false, ◌&&◌, eqb, List, [], ◌∷◌, ◌++◌, Option, Some, None, is_some, length}
 use Rattle.clc_tree.specs.declared.functions.Param.{Param}
 use Rattle.clc_tree.specs.declared.functions.ParamStep.{ParamStep}
 use Rattle.clc_tree.specs.declared.functions.Params.{Params}
@@ -9,16 +8,13 @@ use Rattle.clc_tree.specs.declared.functions.Function.{Function}
 use Rattle.clc_types.specs.declared.typed.TStmt.{TStmt}
 use Rattle.clc_types.specs.declared.typed.TStmt.TheVariants as st
 use Rattle.clc_types.specs.declared.typed.TFunction.{TFunction}
-use Rattle.clc_types.specs.declared.forms.Fault.{Fault}
-use Rattle.clc_types.specs.declared.forms.Home.{Home}
 use Rattle.clc_types.specs.declared.forms.Named.TheVariants as nm
 use Rattle.clc_types.specs.Judged.{violations}
 use Rattle.clc_types.specs.Words.{name_of, one_if, is_kernel}
 use Rattle.clc_types.specs.Heights.{stmt_reach}
 use Rattle.clc_types.specs.Programs.{param_shape, param_tokens, param_name, shapes_of, result_of, returns_tokens, signature}
-use Rattle.clc_types.specs.Scope.{look_in}
-use Rattle.clc_types.specs.Walk.{Walked, Right, Wrong, guarded, bump}
-use Rattle.clc_types.specs.Steps.{View, Stepped, Goes, Stops, and_then, reach, number, skipped, left, declared_in, knows_in, walk_block}
+use Rattle.clc_types.specs.Walk.{Walked, Right, guarded, bump}
+use Rattle.clc_types.specs.Steps.{View, Stepped, Goes, and_then, reach, number, skipped, left, declared_in, knows_in, walk_block}
 
 unfoldable pub counted_in : ℕ → ℕ → ℕ → Walked (Unit {0})
 counted_in n k p = guarded (violations p ((14, eqb n 16) ∷ [])) (Right tt (bump p k))

@@ -6,7 +6,6 @@ use Rattle.clc_lexer.specs.declared.token.Tok.{Tok}
 use Rattle.clc_lexer.specs.declared.token.Tok.TheVariants as tok
 use Rattle.clc_lexer.specs.declared.marks.Mark.{Mark}
 use Rattle.clc_lexer.specs.declared.marks.Mark.TheVariants as m
-use Rattle.clc_lexer.specs.declared.words.Word.{Word}
 use Rattle.clc_lexer.specs.declared.words.Word.TheVariants as w
 use Rattle.clc_tree.specs.declared.expressions.Scalar.{Scalar as Written}
 use Rattle.clc_tree.specs.declared.expressions.Scalar.TheVariants as written

@@ -6,14 +6,14 @@ use q_lane::Scalar;
 use sqlite_items::Items;
 
 /// A violated rule, with the number of its token.
-#[derive(Clone, Copy, Debug, PartialEq, Eq)]
+#[derive(Clone, Copy)]
 pub struct Fault {
     pub token: u32,
     pub rule: u8,
 }
 
 /// The address space of a pointer's elements (OpenCL C 1.2, 6.5).
-#[derive(Clone, Copy, Debug, PartialEq, Eq)]
+#[derive(Clone, Copy, PartialEq, Eq)]
 pub enum Space {
     Global,
     Constant,
@@ -21,7 +21,7 @@ pub enum Space {
 
 /// What a declaration says of its name. A `fixed` variable may not be written, nor the elements of a `fixed` array;
 /// the elements of a `constant` pointer are const.
-#[derive(Clone, Copy, Debug, PartialEq, Eq)]
+#[derive(Clone, Copy)]
 pub enum Shape {
     Value {
         scalar: Scalar,
@@ -41,7 +41,7 @@ pub enum Shape {
 }
 
 /// The type of an expression, with all that the rules look at.
-#[derive(Clone, Copy, Debug, PartialEq, Eq)]
+#[derive(Clone, Copy)]
 pub enum Kind {
     Void,
     Value(Scalar),
@@ -58,7 +58,7 @@ pub enum Kind {
 }
 
 /// What an assignment may do with an expression, parentheses aside: it is no place, it may be written, or it is const.
-#[derive(Clone, Copy, Debug, PartialEq, Eq)]
+#[derive(Clone, Copy)]
 pub enum Place {
     Nowhere,
     Writable,
@@ -66,7 +66,7 @@ pub enum Place {
 }
 
 /// What a name stands for. Variables and functions are given by their numbers.
-#[derive(Clone, Copy, Debug, PartialEq, Eq)]
+#[derive(Clone, Copy)]
 pub enum Named {
     Variable(u32, Shape),
     Function(u32),

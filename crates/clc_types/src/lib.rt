@@ -1,18 +1,10 @@
-//! The typing rules of OpenCL C as this project takes it: a program's typed tree, or the first rule that it violates.
+//! Typed trees, what the typing rules of OpenCL C look at as this project takes them, and the rules as definitions.
 #![tactic(auto)]
 
-mod calls;
-mod declarations;
-mod expressions;
 mod forms;
-mod heights;
-mod programs;
-mod rules;
 mod scope;
-mod state;
-mod statements;
 mod typed;
-mod words;
 
-pub use programs::{check, kernel};
+pub use forms::{Argument, Fault, Form, Home, Kind, Named, Place, Shape, Signature, Sofar, Space};
+pub use scope::{Names, Scope, State};
 pub use typed::{Builtin, Node, TExpr, TFunction, TStmt, Ty, TypeFault, Typed, Var};

@@ -49,7 +49,7 @@ pub enum Builtin {
 }
 
 impl Builtin {
-    pub(crate) const ALL: [Builtin; 19] = [
+    pub const ALL: [Builtin; 19] = [
         Builtin::GetWorkDim,
         Builtin::GetGlobalId,
         Builtin::GetGlobalSize,
@@ -72,7 +72,7 @@ impl Builtin {
     ];
 
     /// The name by which it is called.
-    pub(crate) fn spelling(self) -> &'static [u8]
+    pub fn spelling(self) -> &'static [u8]
         ensures { result.now ≡ spelling_of self }
     {
         match self {
@@ -99,7 +99,7 @@ impl Builtin {
     }
 
     /// The built-in function of the name.
-    pub(crate) fn named(name: &[u8]) -> Option<Builtin>
+    pub fn named(name: &[u8]) -> Option<Builtin>
         ensures { result ≡ builtin_of name.now }
     {
         for which in Builtin::ALL {

@@ -20,15 +20,16 @@ use Rattle.solo_law.specs.Sharing.{no_shares}
 use Rattle.solo_law.proofs.Opening.{openings_start}
 use Rattle.solo_law.proofs.Theorems.{projects, bound, never_stuck}
 use Rattle.compile_pipe.specs.Profile.{IsInProfile}
-use Rattle.compile_pipe.specs.ItemMeaning.{Ended, ItemEnd, Ends as Comes, Bounds, Spent, idle_item, idle_kernel}
-use Rattle.compile_pipe.specs.LaunchMeaning.{AreRun, left_by, turns_of, IsSafe}
-use Rattle.compile_pipe.specs.Openings.{Setting, IsSetting, plan_for, opening_of}
+use Rattle.promise.specs.ItemMeaning.{Ended, ItemEnd, Ends as Comes, Bounds, Spent, idle_item, idle_kernel}
+use Rattle.promise.specs.LaunchMeaning.{AreRun, left_by, turns_of, IsSafe}
+use Rattle.promise.specs.Openings.{Setting, IsSetting, plan_for, opening_of}
 use Rattle.compile_pipe.specs.EmptyCode.{empty_module}
-use Rattle.compile_pipe.specs.Faithful.{buffers_of, KeepsAll, IsFaithful}
+use Rattle.promise.specs.Faithful.{buffers_of, KeepsAll}
+use Rattle.compile_pipe.specs.Kernels.{IsFaithful}
 use Rattle.compile_pipe.proofs.EmptyRun.{IsAt, runs_clean, stands, rests_after, reads_none, writes_none, changes_none}
-use Rattle.compile_pipe.proofs.OpeningLaws.{is_planned}
-use Rattle.compile_pipe.proofs.OpeningBytes.{buffers_back}
-use Rattle.compile_pipe.proofs.OpeningGaps.{gaps_in_opening}
+use Rattle.promise.proofs.OpeningLaws.{is_planned}
+use Rattle.promise.proofs.OpeningBytes.{buffers_back}
+use Rattle.promise.proofs.OpeningGaps.{gaps_in_opening}
 
 words_fit : All (λ w. w < 2 ^ 64) empty_module.words
 unfolding empty_module

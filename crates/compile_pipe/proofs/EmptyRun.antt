@@ -9,7 +9,7 @@ use Rattle.qpu_machine.specs.SoloRun.{Want, Rests, Wants, want, done_alone, deed
 use Rattle.solo_law.specs.Sharing.{no_shares, of_qpu}
 use Rattle.solo_law.proofs.Forward.{Stages, stage_at, stages_clean, keeps_apart}
 use Rattle.compile_pipe.specs.EmptyCode.{empty_module}
-use Rattle.compile_pipe.proofs.Computing.{computes}
+use Rattle.promise.proofs.Computing.{computes}
 
 abbrev code : List ℕ
 code = empty_module.words

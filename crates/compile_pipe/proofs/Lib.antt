@@ -1,15 +1,5 @@
-pub mod MemoryLengths
-pub mod OpeningGaps
-pub mod OpeningBytes
-pub mod OpeningWords
-pub mod OpeningLaws
 pub mod Violations
 pub mod SourceSteps
-pub mod Computing
 pub mod EmptyRun
 pub mod EmptyFaithful
 pub mod KernelLaws
-pub mod Finishing
-pub mod SmallSetting
-pub mod WrongRuns
-pub mod WrongModules

@@ -16,9 +16,9 @@ use Rattle.clc_types.specs.declared.typed.Typed.{Typed}
 use Rattle.clc_types.specs.declared.typed.TypeFault.TheVariants.{Rule}
 use Rattle.clc_types.specs.Judged.{Judged, Fine, Faulty, both, next, IsLeast}
 use Rattle.clc_types.specs.Programs.{program, kernel_of, Judges, Before, function_at, functions_at, function_piece, with_function, no_function}
-use Rattle.compile_pipe.specs.declared.refusal.SourceRule.{SourceRule}
-use Rattle.compile_pipe.specs.declared.refusal.Refusal.{Refusal}
-use Rattle.compile_pipe.specs.declared.refusal.Refusal.TheVariants.{Rule as Refused}
+use Rattle.promise.specs.declared.refusal.SourceRule.{SourceRule}
+use Rattle.promise.specs.declared.refusal.Refusal.{Refusal}
+use Rattle.promise.specs.declared.refusal.Refusal.TheVariants.{Rule as Refused}
 use Rattle.compile_pipe.specs.Profile.{place_of, IsSpelled, IsWanted, IsFirstViolation}
 
 -- ---- sizes

@@ -9,8 +9,8 @@ use Rattle.clc_lexer.proofs.FirstFaults.{one_first}
 use Rattle.clc_reading.specs.Reading.{Reason}
 use Rattle.clc_tree.specs.declared.functions.Tree.{Tree}
 use Rattle.clc_tree.specs.SourceText.{IsTreeOf}
-use Rattle.clc_tree.proofs.OneTree.{has_one_tree}
-use Rattle.clc_tree.proofs.FlatIs.{flat_tree}
+use Rattle.clc_grammar_laws.proofs.OneTree.{has_one_tree}
+use Rattle.clc_grammar_laws.proofs.FlatIs.{flat_tree}
 use Rattle.clc_parser.specs.SourceTree.{IsText, FaultAt}
 use Rattle.clc_parser.proofs.OneAnswer.{one_answer}
 use Rattle.clc_types.specs.declared.forms.Fault.{Fault}
@@ -18,11 +18,12 @@ use Rattle.clc_types.specs.declared.typed.TFunction.{TFunction}
 use Rattle.clc_types.specs.declared.typed.Typed.{Typed}
 use Rattle.clc_types.specs.Judged.{Judged, Fine, Faulty, faults_of, Before, IsLeast}
 use Rattle.clc_types.specs.Programs.{program, kernel_of}
-use Rattle.compile_pipe.specs.declared.refusal.SourceRule.{SourceRule}
-use Rattle.compile_pipe.specs.declared.refusal.Refusal.{Refusal}
-use Rattle.compile_pipe.specs.declared.refusal.Refusal.TheVariants.{Rule, Memory}
+use Rattle.promise.specs.declared.refusal.SourceRule.{SourceRule}
+use Rattle.promise.specs.declared.refusal.Refusal.{Refusal}
+use Rattle.promise.specs.declared.refusal.Refusal.TheVariants.{Rule, Memory}
 use Rattle.compile_pipe.specs.Profile.{lexical_rule, grammar_rule, typing_rule, place_of, IsSpelled, IsProgram, IsTyped, IsWanted, is_built, IsInProfile, IsFirstViolation, bytes, grammar, typing, no_kernel, unbuilt}
-use Rattle.compile_pipe.specs.Laws.{HasOneViolation}
+use Rattle.promise.specs.Laws.{HasOneViolation}
+use Rattle.compile_pipe.specs.Kernels.{opencl}
 
 -- ---- one source has one of each
 
@@ -160,7 +161,7 @@ module _ (source kernel : List ℕ) where
   one_violation rule other at place (unbuilt u a i w g) (no_kernel t h f) = absurd (name_found t u a h f i w)
   one_violation rule other at place (unbuilt t a h w f) (unbuilt u b i v g) = (refl, ap (λ x. x.at) (same_function source kernel t u a b h i w v))
 
-pub has_one_violation : HasOneViolation
+pub has_one_violation : HasOneViolation opencl
 has_one_violation = record {
   one = λ source kernel rule other at place. one_violation source kernel rule other at place;
   none = λ source kernel rule at. lawful_none source kernel rule at;

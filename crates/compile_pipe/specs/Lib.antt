@@ -1,9 +1,4 @@
-pub mod RuleNames
 pub mod Profile
-pub mod ItemMeaning
-pub mod LaunchMeaning
-pub mod Openings
-pub mod Faithful
+pub mod Kernels
 pub mod EmptyCode
 pub mod Laws
-pub mod WrongModules

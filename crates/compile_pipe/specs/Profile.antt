@@ -16,8 +16,8 @@ use Rattle.clc_types.specs.declared.typed.TFunction.{TFunction}
 use Rattle.clc_types.specs.declared.typed.Typed.{Typed}
 use Rattle.clc_types.specs.Judged.{Fine, Faulty, IsLeast}
 use Rattle.clc_types.specs.Programs.{program, kernel_of}
-use Rattle.compile_pipe.specs.declared.refusal.SourceRule.{SourceRule}
-use Rattle.compile_pipe.specs.declared.refusal.SourceRule.TheVariants.{L1, L2, L3, L4, L5, G1, G2, S1, S2, S3, S4, S5, S6, S7, S8, S9, S10, S11, S12, S13, S14, K1, N0}
+use Rattle.promise.specs.declared.refusal.SourceRule.{SourceRule}
+use Rattle.promise.specs.declared.refusal.SourceRule.TheVariants.{L1, L2, L3, L4, L5, G1, G2, S1, S2, S3, S4, S5, S6, S7, S8, S9, S10, S11, S12, S13, S14, K1, N0}
 
 -- ---- the rules under their names here
 

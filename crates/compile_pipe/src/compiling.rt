@@ -2,15 +2,16 @@
 
 ghost use Rattle.std.specs.Prelude.{◌≡◌, ◌⊎◌, ◌<◌, ◌^◌, ℕ, Ok, Err, List, IfOk, OnOk, length};
 ghost use Rattle.vc4q_module.specs.ModuleBytes.{ModuleOf, IsModule};
-ghost use Rattle.compile_pipe.specs.declared.refusal.SourceRule.{SourceRule as AnyRule};
+ghost use Rattle.promise.specs.declared.refusal.SourceRule.{SourceRule as AnyRule};
 ghost use Rattle.compile_pipe.specs.Profile.{is_empty_block as is_empty_block_of, is_built as is_built_function, IsTyped, IsInProfile, IsFirstViolation};
 ghost use Rattle.compile_pipe.specs.EmptyCode.{empty_module};
-ghost use Rattle.compile_pipe.specs.Faithful.{IsFaithful};
+ghost use Rattle.compile_pipe.specs.Kernels.{IsFaithful};
 
-use crate::refusal::{Refusal, SourceRule};
 use crate::sources::typed_tree;
 use crate::words::EMPTY;
-use clc_types::{TFunction, TStmt, Typed, kernel as kernel_number};
+use clc_check::kernel as kernel_number;
+use clc_types::{TFunction, TStmt, Typed};
+use promise::{Refusal, SourceRule};
 use std::alloc::Global;
 use vc4q_module::{Memory, Module};
 

@@ -3,15 +3,10 @@
 #![tactic(auto)]
 
 pub use crate::compiling::compile;
-pub use crate::laws::{
-    law_finishes, law_kernels, law_openings, law_settings, law_violations, law_wrong_modules,
-};
-pub use crate::refusal::{Refusal, SourceRule};
+pub use crate::laws::{law_finishes, law_kernels, law_violations, law_wrong_modules};
+pub use promise::{Refusal, SourceRule};
 
 mod compiling;
 mod laws;
-mod refusal;
 mod sources;
-#[cfg(test)]
-mod tests;
 mod words;

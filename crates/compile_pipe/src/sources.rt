@@ -4,14 +4,15 @@ ghost use Rattle.std.specs.Prelude.{◌≡◌, ◌≤◌, ◌<◌, ◌^◌, ℕ,
 ghost use Rattle.clc_tree.specs.Flat.{flat_of};
 ghost use Rattle.clc_types.specs.Judged.{Fine};
 ghost use Rattle.clc_types.specs.Programs.{program};
-ghost use Rattle.compile_pipe.specs.declared.refusal.SourceRule.{SourceRule as AnyRule};
+ghost use Rattle.promise.specs.declared.refusal.SourceRule.{SourceRule as AnyRule};
 ghost use Rattle.compile_pipe.specs.Profile.{IsSpelled, IsProgram, IsTyped, IsFirstViolation, lexical_rule as lexical_rule_of, typing_rule as typing_rule_of, place_of as place_of_token};
 
-use crate::refusal::{Refusal, SourceRule};
+use clc_check::check;
 use clc_lexer::{LexFault, LexRule, Token, lex};
 use clc_parser::{GramFault, parse};
 use clc_tree::Tree;
-use clc_types::{TypeFault, Typed, check};
+use clc_types::{TypeFault, Typed};
+use promise::{Refusal, SourceRule};
 use std::alloc::Global;
 
 /// The typing rules, of which the first has the number 1.

@@ -8,6 +8,3 @@ mod marks;
 pub use conflicts::conflict;
 pub use laws::law_conflicts;
 pub use marks::{Footprint, Memory};
-
-#[cfg(test)]
-mod tests;

@@ -18,8 +18,3 @@ pub use laws::{law_fit, law_launches, law_layout, law_lines, law_uniforms};
 pub use places::{Places, Region2, layout};
 pub use reading::read_launch;
 pub use work::uniforms;
-
-#[cfg(test)]
-mod made_tests;
-#[cfg(test)]
-mod tests;

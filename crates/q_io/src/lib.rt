@@ -5,8 +5,6 @@
 mod host;
 mod memory;
 mod sure;
-#[cfg(test)]
-mod tests;
 mod text;
 
 ghost use Rattle.std.specs.Prelude.{◌≡◌, ◌++◌};

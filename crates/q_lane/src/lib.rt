@@ -14,6 +14,3 @@ pub use lanes::{Lanes, Mask16};
 pub use laws::{law_choice, law_length, law_narrow, law_order, law_rotations, law_words};
 pub use operations::{BinOp, UnOp};
 pub use words::{apply, apply_one};
-
-#[cfg(test)]
-mod tests;

@@ -16,6 +16,3 @@ pub use instr::Instr;
 pub use laws::{law_fields, law_words};
 pub use operations::{add_value, holds, mul_value, passes, rotation, small_word, unpacked};
 pub use words::{decode, encode};
-
-#[cfg(test)]
-mod tests;

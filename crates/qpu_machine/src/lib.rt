@@ -19,6 +19,3 @@ pub use plan::{Fill, Plan};
 pub use q_lane::Lanes;
 pub use state::{Counts, Effect, QpuView, Step, Stop};
 pub use vpm_words::{Region, Rule};
-
-#[cfg(test)]
-mod tests;

@@ -13,6 +13,3 @@ pub use recent::{Recent, Written, written_by};
 pub use registers::{Target, branches, ends, target_of_add, target_of_mul, turns};
 pub use rules::first_broken;
 pub use vpm_words::{Access, Owner, Rule, Seen};
-
-#[cfg(test)]
-mod tests;

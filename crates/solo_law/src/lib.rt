@@ -7,9 +7,6 @@ ghost use Rattle.solo_law.specs.Laws.{EveryRunProjects, EveryRunIsBounded, NoRun
 ghost use Rattle.solo_law.specs.Sharing.{GroupsCommute};
 ghost use Rattle.solo_law.specs.Example.{ExampleFits, FilledExampleFits, ExampleStores};
 
-#[cfg(test)]
-mod tests;
-
 /// Let each QPU alone be clean and no two conflict. Then no run breaks a restriction; the places and
 /// transfers of each QPU are the first ones of its run alone; a finished run leaves of each byte what
 /// the run alone that touches it leaves; and a byte that none writes is as at the opening.

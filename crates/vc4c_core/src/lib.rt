@@ -1,90 +1,20 @@
-//! The top call: the program over any files and any output.
+//! The top call: the program with its compiler, over any files and any output.
 #![tactic(auto)]
 
-ghost use Rattle.std.specs.Prelude.{◌≡◌, ◌⊎◌, true, map, string_bytes, IfSome, None};
+ghost use Rattle.std.specs.Prelude.{◌≡◌, ◌⊎◌, map, string_bytes, true, IfSome, None};
 ghost use Rattle.q_io.specs.Rose.{Rose};
-ghost use Rattle.vc4c_core.specs.Commands.{plan_of, due_for, usage_line, Runs, first_written, IfCompile, IfExec, IfRun};
-ghost use Rattle.vc4c_core.specs.Due.{EndsAsMade, AnswersAsMade, OnlyWritesMade, IsQuiet, ShortOrKept};
-ghost use Rattle.vc4c_core.specs.Lines.{Says};
-ghost use Rattle.vc4c_core.specs.ExecClauses.{ExecAnswers};
-ghost use Rattle.vc4c_core.specs.CompileClauses.{CompileAnswers, RunAnswers, CompileEnds, CompileRefuses, RunEnds, RunRefuses};
+ghost use Rattle.commands.specs.Commands.{plan_of, due_for, usage_line, first_written, IfCompile, IfExec, IfRun};
+ghost use Rattle.commands.specs.Due.{IsQuiet, ShortOrKept};
+ghost use Rattle.commands.specs.Lines.{Says};
+ghost use Rattle.commands.specs.ExecClauses.{ExecAnswers};
+ghost use Rattle.vc4c_core.specs.Clauses.{Runs, EndsAsMade, AnswersAsMade, OnlyWritesMade, CompileAnswers, RunAnswers, CompileEnds, CompileRefuses, RunEnds, RunRefuses};
 
-use crate::command::{Command, command_of};
-use crate::compiling::compile_file;
-use crate::exec::exec;
-use crate::places::say;
-pub use crate::playing::{Ready, play};
-use crate::running::run_file;
-pub use crate::status::{Status, code};
+use crate::compiler::OpenClCompiler;
+pub use commands::{Ready, Status, code, play};
 use q_io::{Files, Sink};
 use std::alloc::Global;
 
-mod buffers;
-mod command;
-mod compiling;
-mod exec;
-mod lines;
-mod names;
-mod opening;
-mod places;
-mod playing;
-mod refusals;
-mod report;
-mod running;
-mod status;
-
-const USAGE: &[u8] =
-    b"usage: compile SRC KERNEL MODULE | exec MODULE LAUNCH | run SRC KERNEL MODULE LAUNCH | judge SRC KERNEL LAUNCH TURNS | disasm MODULE | demo SEED\n";
-
-#[tactic(auto, unfolding(crate::specs::Commands::usage_line))]
-fn say_usage<S: Sink>(out: &mut S) -> Status
-    ensures { Says (S.state out.old) (S.state out.new) usage_line Status.Usage result }
-{
-    say(out, USAGE, Status::Usage)
-}
-
-fn run_words<F: Files, S: Sink>(
-    alloc: Global,
-    words: &[String],
-    files: &mut F,
-    out: &mut S,
-) -> Status
-    ensures { Runs (plan_of (map string_bytes words.now))
-        (F.state files.old) (S.state out.old) (F.state files.new) (S.state out.new) result }
-{
-    match command_of(words) {
-        Some(
-            Command::Compile {
-                source_name,
-                kernel,
-                module_name,
-            },
-        ) => compile_file(alloc, source_name, kernel, module_name, files, out),
-        Some(
-            Command::Exec {
-                module_name,
-                launch_name,
-            },
-        ) => exec(alloc, module_name, launch_name, files, out),
-        Some(
-            Command::Run {
-                source_name,
-                kernel,
-                module_name,
-                launch_name,
-            },
-        ) => run_file(
-            alloc,
-            source_name,
-            kernel,
-            module_name,
-            launch_name,
-            files,
-            out,
-        ),
-        None => say_usage(out),
-    }
-}
+mod compiler;
 
 /// Does what the words ask for, and answers how it went.
 ///
@@ -174,14 +104,5 @@ pub fn run<F: Files, S: Sink>(alloc: Global, words: &[String], files: &mut F, ou
     ensures order { Runs (plan_of (map string_bytes words.now))
         (F.state files.old) (S.state out.old) (F.state files.new) (S.state out.new) result }
 {
-    run_words(alloc, words, files, out)
+    commands::run::<OpenClCompiler, F, S>(alloc, words, files, out)
 }
-
-#[cfg(test)]
-mod compile_tests;
-#[cfg(test)]
-mod fault_tests;
-#[cfg(test)]
-mod launch_tests;
-#[cfg(test)]
-mod tests;

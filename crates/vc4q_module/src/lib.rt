@@ -26,6 +26,3 @@ pub use module::{Memory, Module};
 pub use q_lane::{Kind, Scalar};
 pub use reading::read;
 pub use writing::write;
-
-#[cfg(test)]
-mod tests;

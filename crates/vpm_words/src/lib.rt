@@ -22,6 +22,3 @@ pub use setup::{
 pub use site::Site;
 pub use state::{Access, Element, Owner, Ports, Region, Rule, Seen, Shared};
 pub use transfer::Transfer;
-
-#[cfg(test)]
-mod tests;

@@ -1,5 +1,5 @@
 use Rattle.std.proofs.Common.{sym}
-use Rattle.clc_tree.proofs.DeclarationsExact.{items_loop}
+use Rattle.clc_grammar_laws.proofs.DeclarationsExact.{items_loop}
 use Rattle.clc_parser.proofs.declarations.item_steps.Goals as goal
 
 pub turns-smaller : goal.turns-smaller

@@ -2,7 +2,7 @@ use Rattle.std.proofs.Common.{◌≡◌, suc, ◌+◌, ◌-◌, sym, ap, ◌∙�
 use Rattle.clc_reading.specs.Reading.{Got}
 use Rattle.clc_parser.specs.Reads.{Reads}
 use Rattle.clc_tree.specs.ExpressionRules as spec
-use Rattle.clc_tree.proofs.ExpressionLevels.{commas_loop, posts_loop, steps_loop}
+use Rattle.clc_grammar_laws.proofs.ExpressionLevels.{commas_loop, posts_loop, steps_loop}
 use Rattle.clc_parser.proofs.Handing.{handed_on}
 use Rattle.clc_parser.proofs.Chains.{level_read, looser_stops, steps_stop}
 use Rattle.clc_parser.proofs.expressions.+rules.Goals as goal

@@ -1,5 +1,5 @@
 use Rattle.std.proofs.Common.{sym}
-use Rattle.clc_tree.proofs.ProgramsExact.{functions_loop}
+use Rattle.clc_grammar_laws.proofs.ProgramsExact.{functions_loop}
 use Rattle.clc_parser.proofs.functions.all_functions.Goals as goal
 
 pub turns-smaller : goal.turns-smaller

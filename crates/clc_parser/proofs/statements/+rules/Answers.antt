@@ -1,7 +1,7 @@
 use Rattle.std.proofs.Common.{◌≡◌, suc, ◌-◌, sym, subst, arith}
 use Rattle.clc_parser.specs.Reads.{Reads}
 use Rattle.clc_tree.specs.StatementRules as spec
-use Rattle.clc_tree.proofs.StatementLevels.{parts_loop}
+use Rattle.clc_grammar_laws.proofs.StatementLevels.{parts_loop}
 use Rattle.clc_reading.specs.Reading.{taken}
 use Rattle.clc_tree.specs.Kinds.{is}
 use Rattle.clc_tree.specs.ExpressionRules as e

@@ -1,5 +1,5 @@
 use Rattle.std.proofs.Common.{sym, ap, subst, ◌∙◌, ◌<◌, length, get_or}
-use Rattle.compile_pipe.specs.declared.refusal.SourceRule.TheVariants.{K1, N0}
+use Rattle.promise.specs.declared.refusal.SourceRule.TheVariants.{K1, N0}
 use Rattle.compile_pipe.specs.Profile.{no_kernel, unbuilt}
 use Rattle.compile_pipe.proofs.SourceSteps.{kernel_within, wanted, told}
 use Rattle.compile_pipe.proofs.compiling.allow.Goals as goal

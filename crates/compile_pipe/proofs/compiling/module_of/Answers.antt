@@ -1,5 +1,5 @@
 use Rattle.std.proofs.Common.{sym, subst}
-use Rattle.compile_pipe.specs.Faithful.{IsFaithful}
+use Rattle.compile_pipe.specs.Kernels.{IsFaithful}
 use Rattle.compile_pipe.proofs.EmptyFaithful.{empty_is_faithful}
 use Rattle.compile_pipe.proofs.compiling.module_of.Goals as goal
 

@@ -1,7 +1,7 @@
 use Rattle.std.proofs.Common.{sym, subst}
 use Rattle.clc_reading.specs.Reading.{Wrong, Deep}
 use Rattle.clc_parser.specs.SourceTree.{IsFirstFault}
-use Rattle.compile_pipe.specs.declared.refusal.SourceRule.TheVariants.{G1, G2}
+use Rattle.promise.specs.declared.refusal.SourceRule.TheVariants.{G1, G2}
 use Rattle.compile_pipe.specs.Profile.{IsFirstViolation, grammar}
 use Rattle.compile_pipe.proofs.SourceSteps.{few_tokens, short_enough, told}
 use Rattle.compile_pipe.proofs.sources.program_of.Goals as goal

@@ -1,5 +1,5 @@
 use Rattle.std.proofs.Common.{◌∙◌, ap, get_or, ◌-◌}
-use Rattle.compile_pipe.specs.declared.refusal.SourceRule.TheVariants.{S14}
+use Rattle.promise.specs.declared.refusal.SourceRule.TheVariants.{S14}
 use Rattle.compile_pipe.specs.Profile.{typing_rules}
 use Rattle.compile_pipe.proofs.SourceSteps.{rule_past}
 use Rattle.compile_pipe.proofs.sources.typing_rule.Goals as goal

@@ -1,0 +1,12 @@
+pub mod Facts
+pub mod Readers
+pub mod Languages
+pub mod ExpressionsExact
+pub mod ExpressionLevels
+pub mod DeclarationsExact
+pub mod StatementsExact
+pub mod StatementLevels
+pub mod ProgramsExact
+pub mod Layers
+pub mod FlatIs
+pub mod OneTree

@@ -1,0 +1,3 @@
+pub mod TestLayers
+pub mod ProperPasses
+pub mod PassesProper

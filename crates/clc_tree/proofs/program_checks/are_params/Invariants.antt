@@ -1,6 +1,0 @@
-use Rattle.std.proofs.Common.{◌≡◌, map, drop}
-use Rattle.clc_tree.specs.Proper.{all, param_step_proper}
-use Rattle.clc_tree.proofs.program_checks.are_params.Given as goal
-
-abbrev pub invariant-loop-step : goal.invariant-loop-step
-invariant-loop-step l = all (map param_step_proper l.steps) ≡ all (map param_step_proper (drop l.step-index l.steps))

@@ -1,8 +1,0 @@
-use Rattle.std.proofs.Common.{sym, ◌∙◌}
-use Rattle.clc_types.specs.Walk.{operator_end}
-use Rattle.clc_types.proofs.WalkRules.{refused}
-use Rattle.clc_types.proofs.expressions.operator_end.Goals as goal
-
-pub returns-in-Some : goal.returns-in-Some
-unfolding operator_end
-returns-in-Some c = refused _ _ c.in-Some.f c.broken.result c.args.at.now (sym c.operator_needs.ensures ∙ c.in-Some.is) c.broken.ensures

@@ -1,0 +1,8 @@
+use Rattle.std.proofs.Common.{sym, ◌∙◌}
+use Rattle.clc_types.specs.Walk.{assign_end}
+use Rattle.clc_walk.proofs.WalkRules.{refused}
+use Rattle.clc_walk.proofs.expressions.assign_end.Goals as goal
+
+pub returns-in-Some : goal.returns-in-Some
+unfolding assign_end
+returns-in-Some c = refused _ _ c.in-Some.f c.broken.result c.args.at.now (sym c.assign_needs.ensures ∙ c.in-Some.is) c.broken.ensures

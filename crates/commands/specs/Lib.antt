@@ -1,0 +1,14 @@
+pub mod Lines
+pub mod Plan
+pub mod Due
+pub mod StatusCode
+pub mod Report
+pub mod Buffers
+pub mod Play
+pub mod Openings
+pub mod Exec
+pub mod Refusals
+pub mod Compile
+pub mod ExecClauses
+pub mod CompileClauses
+pub mod Commands

@@ -1,0 +1,29 @@
+//! Runs the machine on the openings of `runs.txt`, `example.txt` and `registers.txt`, compares footprints by `footprints.txt`, calls the laws of
+//! `laws.txt`, and tells which rows are answered otherwise than they say.
+#![tactic(auto)]
+
+mod begun;
+mod footprints;
+mod laws;
+mod openings;
+mod registers;
+mod rows;
+mod runs;
+mod texts;
+mod wanted;
+
+use footprints::Footprints;
+use laws::Laws;
+use registers::Registers;
+use rows::tell;
+use runs::Runs;
+use std::io;
+
+fn main(rt: HostRuntime) -> io::Result<()> {
+    let mut runs = Runs::new(rt.alloc());
+    tell(&rt, "runs.txt", &mut runs)?;
+    tell(&rt, "example.txt", &mut runs)?;
+    tell(&rt, "registers.txt", &mut Registers)?;
+    tell(&rt, "footprints.txt", &mut Footprints)?;
+    tell(&rt, "laws.txt", &mut Laws)
+}

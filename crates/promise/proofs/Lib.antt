@@ -1,0 +1,11 @@
+pub mod MemoryLengths
+pub mod OpeningGaps
+pub mod OpeningBytes
+pub mod OpeningWords
+pub mod OpeningLaws
+pub mod Computing
+pub mod IdleLaunches
+pub mod Finishing
+pub mod SmallSetting
+pub mod WrongRuns
+pub mod WrongModules

@@ -1,0 +1,11 @@
+//! The promise between those who compile and those who run: how a module's machine is opened, what work-items and launches mean, when a
+//! module is faithful to a kernel of a source, and what a compiler has to keep. It knows nothing of any language.
+#![tactic(auto)]
+
+pub use crate::compiler::Compiler;
+pub use crate::laws::{law_idle_launches, law_openings, law_settings};
+pub use crate::refusal::{Refusal, SourceRule};
+
+mod compiler;
+mod laws;
+mod refusal;
