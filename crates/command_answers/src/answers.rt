@@ -61,7 +61,7 @@ fn file(
 ) -> Result<Option<String>, RowFault> {
     let (name, value) = wanted.split_once(" = ").ok_or(RowFault::NoRow)?;
     let key = Text::from_slice(alloc, name.as_bytes())?;
-    let got = outcome.left.file(&key);
+    let got = outcome.left.file(&key)?;
     if got == Some(bytes_of(alloc, names, value)?.as_slice()) {
         return Ok(None);
     }
@@ -70,10 +70,8 @@ fn file(
 
 fn no_file(alloc: Global, outcome: &Outcome, wanted: &str) -> Result<Option<String>, RowFault> {
     let name = wanted.strip_prefix("file ").ok_or(RowFault::NoRow)?;
-    match outcome
-        .left
-        .file(&Text::from_slice(alloc, name.as_bytes())?)
-    {
+    let key = Text::from_slice(alloc, name.as_bytes())?;
+    match outcome.left.file(&key)? {
         None => Ok(None),
         got => Ok(Some(told(alloc, name, got)?)),
     }

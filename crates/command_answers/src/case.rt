@@ -51,11 +51,12 @@ impl Outcome {
 }
 
 impl Left {
-    pub fn file(&self, name: &Text) -> Option<&[u8]> {
+    /// The content of a file, None where there is none; no row may ask for one where the files aren't known.
+    pub fn file(&self, name: &Text) -> Result<Option<&[u8]>, RowFault> {
         match self {
-            Left::Sure(files) => files.file(name),
-            Left::Failing { files, .. } => files.file(name),
-            Left::Unknown => None,
+            Left::Sure(files) => Ok(files.file(name)),
+            Left::Failing { files, .. } => Ok(files.file(name)),
+            Left::Unknown => Err(RowFault::NoRow),
         }
     }
 }

@@ -7,7 +7,7 @@ use Rattle.promise.specs.Laws.{KernelsAreOne}
 use Rattle.promise.specs.WrongModules.{OnlyIdle}
 use Rattle.promise.proofs.IdleLaunches.{idle_launches as idle_kernel_launches}
 use Rattle.compile_pipe.specs.Kernels.{opencl}
-use Rattle.compile_pipe.specs.Laws.{IdleLaunchesAreSafe}
+use Rattle.compile_pipe.specs.Laws.{KernelLaunchesAreSafe}
 
 pub kernels_are_one : KernelsAreOne opencl
 kernels_are_one =
@@ -20,7 +20,7 @@ kernels_are_one =
 pub only_idle : OnlyIdle opencl
 only_idle source name k is = is.1
 
-pub idle_launches : IdleLaunchesAreSafe
+pub idle_launches : KernelLaunchesAreSafe
 idle_launches source name k is launch buffers turns enough =
     let safe = idle_kernel_launches launch buffers turns enough in
     (safe.0, subst (λ (j : Kernel). IsSafe (j.item launch) (items_of launch.global) buffers turns safe.0) (sym is.1) safe.1, safe.2, safe.3)

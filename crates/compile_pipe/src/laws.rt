@@ -3,7 +3,7 @@
 ghost use Rattle.promise.specs.Laws.{HasOneViolation, KernelsAreOne, SafeRunsFinish};
 ghost use Rattle.promise.specs.WrongModules.{WrongModules};
 ghost use Rattle.compile_pipe.specs.Kernels.{opencl};
-ghost use Rattle.compile_pipe.specs.Laws.{IdleLaunchesAreSafe};
+ghost use Rattle.compile_pipe.specs.Laws.{KernelLaunchesAreSafe};
 
 /// A source has one first violation at most for a kernel's name, and none where it is in the profile.
 pub fn law_violations()
@@ -13,7 +13,7 @@ pub fn law_violations()
 /// A source has one kernel of a name exactly where it is in the profile, and each launch of it is safe.
 pub fn law_kernels()
     ensures one { KernelsAreOne opencl }
-    ensures safe { IdleLaunchesAreSafe }
+    ensures safe { KernelLaunchesAreSafe }
 {}
 
 /// Where a launch is safe, as many rounds as the bound finish a run of a faithful module, and leave

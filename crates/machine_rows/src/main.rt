@@ -1,5 +1,5 @@
-//! Runs the machine on the openings of `runs.txt`, `example.txt` and `registers.txt`, compares footprints by `footprints.txt`, calls the laws of
-//! `laws.txt`, and tells which rows are answered otherwise than they say.
+//! Runs the machine on the openings of `runs.txt`, `example.txt` and `registers.txt`, compares footprints by `footprints.txt`,
+//! and tells which rows are answered otherwise than they say. It calls the laws as well.
 #![tactic(auto)]
 
 mod begun;
@@ -13,7 +13,7 @@ mod texts;
 mod wanted;
 
 use footprints::Footprints;
-use laws::Laws;
+use laws::call_each;
 use registers::Registers;
 use rows::tell;
 use runs::Runs;
@@ -24,6 +24,6 @@ fn main(rt: HostRuntime) -> io::Result<()> {
     tell(&rt, "runs.txt", &mut runs)?;
     tell(&rt, "example.txt", &mut runs)?;
     tell(&rt, "registers.txt", &mut Registers)?;
-    tell(&rt, "footprints.txt", &mut Footprints)?;
-    tell(&rt, "laws.txt", &mut Laws)
+    call_each();
+    tell(&rt, "footprints.txt", &mut Footprints)
 }

@@ -5,7 +5,7 @@ use crate::openings::{Opening, begin};
 use crate::rows::{Fault, Line, Rows, agree};
 use crate::texts::{bytes, instruction, word, words};
 use crate::wanted::{counts, effect, lanes, stop, view};
-use qpu_machine::{Fill, Lanes, Region, Step};
+use qpu_machine::{Fill, Region, Step};
 use std::alloc::{AllocError, Global};
 
 /// The opening that the lines told so far, and the machine that was begun last.

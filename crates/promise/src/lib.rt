@@ -1,5 +1,6 @@
 //! The promise between those who compile and those who run: how a module's machine is opened, what work-items and launches mean, when a
-//! module is faithful to a kernel of a source, and what a compiler has to keep. It knows nothing of any language.
+//! module is faithful to a kernel of a source, and what a compiler has to keep. Which sources are in the profile is a language's to say;
+//! the rules by which others are refused have their names here.
 #![tactic(auto)]
 
 pub use crate::compiler::Compiler;

@@ -1,5 +1,5 @@
 use Rattle.std.proofs.Common.{rules}
-use Rattle.commands.specs.Compile.{compile_plan, store_plan}
+use Rattle.commands.specs.Compile.{compile_plan}
 use Rattle.commands.proofs.AnyLanguage.{ends_any}
 use Rattle.commands.proofs.compiling.compile_file.Goals as goal
 
