@@ -26,6 +26,7 @@ pub fn optional(tokens: &mut Tokens<'_>, room: u32, kind: Kind) -> Result<Option
 /// The type of a pointer, after its first `const`.
 #[tactic(auto, unfolding(crate::specs::StatementRules::pointer_from))]
 pub fn pointer_from(
+    alloc: Global,
     tokens: &mut Tokens<'_>,
     room: u32,
     outer_const: Option<Token>,
@@ -34,10 +35,11 @@ pub fn pointer_from(
 {
     let space = tokens.one(room, Kind::Space)?;
     let inner_const = optional(tokens, room, Kind::Const)?;
-    let element = scalar(tokens, room)?;
+    let element = Boxed::new(alloc, scalar(tokens, room)?)?;
     let star = tokens.one(room, Kind::Star)?;
     let own_const = optional(tokens, room, Kind::Const)?;
     let restrict = optional(tokens, room, Kind::Restrict)?;
+    let element = element.into_inner();
     Ok(Pointer {
         outer_const,
         space,
@@ -120,13 +122,13 @@ fn values_from(
     requires { inner < 2 ^ 32 - 1 }
     ensures { Reads (spec.values_from inner constant tokens.old.left.now) result tokens.new.left.now }
 {
-    let scalar = scalar(tokens, inner + 1)?;
+    let scalar = Boxed::new(alloc, scalar(tokens, inner + 1)?)?;
     let first = Boxed::new(alloc, item(alloc, tokens, inner)?)?;
     let rest = item_steps(alloc, tokens, inner)?;
     let end = tokens.take(Kind::Semicolon)?;
     Ok(Declare::Values {
         constant,
-        scalar,
+        scalar: scalar.into_inner(),
         first: first.into_inner(),
         rest,
         end,
@@ -139,7 +141,7 @@ fn named_from(
     alloc: Global,
     tokens: &mut Tokens<'_>,
     inner: u32,
-    pointer: Pointer,
+    pointer: Boxed<Pointer>,
 ) -> Result<Declare, Stop>
     ensures { Reads (spec.named_from inner pointer tokens.old.left.now) result tokens.new.left.now }
 {
@@ -147,7 +149,7 @@ fn named_from(
     let value = initial(alloc, tokens, inner)?;
     let end = tokens.take(Kind::Semicolon)?;
     Ok(Declare::Pointer {
-        pointer,
+        pointer: pointer.into_inner(),
         name,
         value: value.map(Boxed::into_inner),
         end,
@@ -164,7 +166,7 @@ fn pointed(
     requires { inner < 2 ^ 32 - 1 }
     ensures { Reads (own.pointed inner constant tokens.old.left.now) result tokens.new.left.now }
 {
-    let pointer = pointer_from(tokens, inner + 1, constant)?;
+    let pointer = Boxed::new(alloc, pointer_from(alloc, tokens, inner + 1, constant)?)?;
     named_from(alloc, tokens, inner, pointer)
 }
 

@@ -1,4 +1,5 @@
-//! Expressions, rule by rule. `room` is how many depths are left here, and `inner` how many are left one level deeper.
+//! Expressions, rule by rule. `room` is how many depths are left here, and `inner` how many are left one level deeper. A part is
+//! kept in a box while more is read that may fail, so that dropping it there is no matter of its form.
 
 ghost use Rattle.std.specs.Prelude.{◌≡◌, ◌<◌, ◌≤◌, IfOk, IfErr};
 ghost use Rattle.clc_tree.specs.ExpressionRules as spec;
@@ -85,8 +86,9 @@ fn lower_unary(alloc: Global, tokens: &mut Tokens<'_>, room: u32) -> Result<Unar
 pub fn expression(alloc: Global, tokens: &mut Tokens<'_>, inner: u32) -> Result<Expr, Stop>
     ensures { Reads (spec.expression inner (spec.levels inner) tokens.old.left.now) result tokens.new.left.now }
 {
-    let first = assign(alloc, tokens, inner)?;
+    let first = Boxed::new(alloc, assign(alloc, tokens, inner)?)?;
     let rest = commas(alloc, tokens, inner)?;
+    let first = first.into_inner();
     Ok(Expr { first, rest })
 }
 
@@ -124,9 +126,10 @@ pub fn assign(alloc: Global, tokens: &mut Tokens<'_>, inner: u32) -> Result<Assi
     match lone_unary(value) {
         Bare::Other(value) => Ok(Assign::Cond(value)),
         Bare::Lone(place) => {
+            let place = Boxed::new(alloc, place)?;
             let operator = tokens.take(Kind::Assignment)?;
             let value = Boxed::new(alloc, lower_assign(alloc, tokens, inner)?)?;
-            Ok(Assign::Set(place, operator, value))
+            Ok(Assign::Set(place.into_inner(), operator, value))
         }
     }
 }
@@ -162,8 +165,10 @@ fn conditional(alloc: Global, tokens: &mut Tokens<'_>, inner: u32) -> Result<Con
     if !tokens.sees(Kind::Question) {
         return Ok(Cond { test, choice: None });
     }
+    let test = Boxed::new(alloc, test)?;
     let question = tokens.take(Kind::Question)?;
     let choice = Some(Boxed::new(alloc, choice_from(alloc, tokens, inner, question)?)?);
+    let test = test.into_inner();
     Ok(Cond { test, choice })
 }
 
@@ -178,9 +183,10 @@ fn choice_from(
 ) -> Result<Choice, Stop>
     ensures { Reads (spec.choice_from inner (spec.levels inner) question tokens.old.left.now) result tokens.new.left.now }
 {
-    let yes = expr(alloc, tokens, inner)?;
+    let yes = Boxed::new(alloc, expr(alloc, tokens, inner)?)?;
     let colon = tokens.one(inner, Kind::Colon)?;
     let no = lower_cond(alloc, tokens, inner)?;
+    let yes = yes.into_inner();
     Ok(Choice {
         question,
         yes,
@@ -277,9 +283,10 @@ fn cast_from(
     ensures { Reads (spec.cast_from inner (spec.levels inner) opening tokens.old.left.now) result tokens.new.left.now }
 {
     if tokens.sees(Kind::ScalarWord) {
-        let target = scalar(tokens, inner)?;
+        let target = Boxed::new(alloc, scalar(tokens, inner)?)?;
         let closing = tokens.take(Kind::RightParen)?;
         let operand = Boxed::new(alloc, lower_cast(alloc, tokens, inner)?)?;
+        let target = target.into_inner();
         return Ok(Cast::To {
             opening,
             target,

@@ -16,26 +16,26 @@ use sqlite_items::{Boxed, Items};
 use std::alloc::Global;
 
 #[tactic(auto, unfolding(crate::specs::ProgramRules::parameter))]
-fn parameter(tokens: &mut Tokens<'_>, room: u32) -> Result<Param, Stop>
+fn parameter(alloc: Global, tokens: &mut Tokens<'_>, room: u32) -> Result<Param, Stop>
     ensures { Reads (spec.parameter room tokens.old.left.now) result tokens.new.left.now }
 {
     let constant = optional(tokens, room, Kind::Const)?;
     if tokens.sees(Kind::Space) {
-        let pointer = pointer_from(tokens, room, constant)?;
+        let pointer = Boxed::new(alloc, pointer_from(alloc, tokens, room, constant)?)?;
         let name = tokens.one(room, Kind::Name)?;
-        return Ok(Param::Pointer(pointer, name));
+        return Ok(Param::Pointer(pointer.into_inner(), name));
     }
-    let scalar = scalar(tokens, room)?;
+    let scalar = Boxed::new(alloc, scalar(tokens, room)?)?;
     let name = tokens.one(room, Kind::Name)?;
-    Ok(Param::Value(constant, scalar, name))
+    Ok(Param::Value(constant, scalar.into_inner(), name))
 }
 
 #[tactic(auto, unfolding(crate::specs::ProgramRules::parameter_after))]
-fn parameter_step(tokens: &mut Tokens<'_>, room: u32) -> Result<ParamStep, Stop>
+fn parameter_step(alloc: Global, tokens: &mut Tokens<'_>, room: u32) -> Result<ParamStep, Stop>
     ensures { Reads (spec.parameter_after room tokens.old.left.now) result tokens.new.left.now }
 {
     let comma = tokens.one(room, Kind::Comma)?;
-    let param = parameter(tokens, room)?;
+    let param = parameter(alloc, tokens, room)?;
     Ok(ParamStep { comma, param })
 }
 
@@ -48,7 +48,7 @@ fn parameter_steps(
 {
     let mut rest = Items::new(alloc);
     'turns: while tokens.sees(Kind::Comma) {
-        rest.push(parameter_step(tokens, room)?)?;
+        rest.push(parameter_step(alloc, tokens, room)?)?;
     }
     Ok(rest)
 }
@@ -69,7 +69,7 @@ fn parameters(
     if !tokens.sees(Kind::DeclareStart) {
         return Ok(None);
     }
-    let first = Boxed::new(alloc, parameter(tokens, room)?)?;
+    let first = Boxed::new(alloc, parameter(alloc, tokens, room)?)?;
     let rest = parameter_steps(alloc, tokens, room)?;
     let list = Params::List(first.into_inner(), rest);
     Ok(Some(Boxed::new(alloc, list)?))
@@ -92,7 +92,7 @@ fn function_from(
     tokens: &mut Tokens<'_>,
     inner: u32,
     lead: Option<Token>,
-    returns: Returns,
+    returns: Boxed<Returns>,
 ) -> Result<Function, Stop>
     ensures { Reads (own.function_from inner lead returns tokens.old.left.now) result tokens.new.left.now }
 {
@@ -103,7 +103,7 @@ fn function_from(
     let body = block(alloc, tokens, inner)?;
     Ok(Function {
         lead,
-        returns,
+        returns: returns.into_inner(),
         name,
         opening,
         params: params.map(Boxed::into_inner),
@@ -118,7 +118,7 @@ fn function_rule(alloc: Global, tokens: &mut Tokens<'_>, inner: u32) -> Result<F
     ensures { Reads (spec.function_rule inner tokens.old.left.now) result tokens.new.left.now }
 {
     let lead = optional(tokens, inner + 1, Kind::Lead)?;
-    let returns = returns(tokens, inner + 1)?;
+    let returns = Boxed::new(alloc, returns(tokens, inner + 1)?)?;
     function_from(alloc, tokens, inner, lead, returns)
 }
 

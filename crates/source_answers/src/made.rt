@@ -1,4 +1,5 @@
-//! Trees that are made by hand: proper ones, and others, of which the parser gives none.
+//! Trees that are made by hand: proper ones, and others, of which the parser gives none. A part is kept in a box while more is made that may
+//! fail, so that dropping it there is no matter of its form.
 
 use clc_lexer::{LexFault, LexRule, Token, lex};
 use clc_proper::proper;
@@ -25,58 +26,67 @@ fn operand(alloc: Global, primary: Primary) -> Chain {
     Chain::One(Cast::Of(Unary::Post(Post { primary, rest })))
 }
 
-fn named(alloc: Global, name: &str) -> Result<Chain, LexFault> {
-    Ok(operand(alloc, Primary::Name(token(alloc, name)?)))
+fn named(alloc: Global, name: &str) -> Result<Boxed<Chain>, LexFault> {
+    let name = Primary::Name(token(alloc, name)?);
+    Ok(Boxed::new(alloc, operand(alloc, name))?)
 }
 
 /// `a`, an operator and an operand
-fn level(alloc: Global, operator: &str, operand: Chain) -> Result<Chain, LexFault> {
-    let step = ChainStep {
-        operator: token(alloc, operator)?,
-        operand,
-    };
-    let steps = Items::from_vec(vec![in alloc; step]?);
-    Ok(Chain::Level(Boxed::new(alloc, named(alloc, "a")?)?, steps))
+fn level(
+    alloc: Global,
+    operator: &str,
+    operand: Boxed<Chain>,
+) -> Result<Boxed<Chain>, LexFault> {
+    let operator = token(alloc, operator)?;
+    let operand = operand.into_inner();
+    let steps = Items::from_vec(vec![in alloc; ChainStep { operator, operand }]?);
+    let first = named(alloc, "a")?;
+    Ok(Boxed::new(alloc, Chain::Level(first, steps))?)
 }
 
-fn expr(alloc: Global, test: Chain) -> Expr {
+fn expr(alloc: Global, test: Boxed<Chain>) -> Expr {
+    let test = test.into_inner();
     Expr {
         first: Assign::Cond(Cond { test, choice: None }),
         rest: Items::new(alloc),
     }
 }
 
-fn eval(alloc: Global, chain: Chain) -> Result<Stmt, LexFault> {
-    Ok(Stmt::Eval(expr(alloc, chain), token(alloc, ";")?))
+fn eval(alloc: Global, chain: Boxed<Chain>) -> Result<Boxed<Stmt>, LexFault> {
+    let end = token(alloc, ";")?;
+    Ok(Boxed::new(alloc, Stmt::Eval(expr(alloc, chain), end))?)
 }
 
 /// `else d;`
 fn other(alloc: Global) -> Result<Option<Boxed<Else>>, LexFault> {
-    let other = Else {
-        word: token(alloc, "else")?,
-        body: eval(alloc, named(alloc, "d")?)?,
-    };
-    Ok(Some(Boxed::new(alloc, other)?))
+    let word = token(alloc, "else")?;
+    let body = eval(alloc, named(alloc, "d")?)?.into_inner();
+    Ok(Some(Boxed::new(alloc, Else { word, body })?))
 }
 
 fn choice(
     alloc: Global,
     test: &str,
-    body: Stmt,
+    body: Boxed<Stmt>,
     other: Option<Boxed<Else>>,
-) -> Result<Stmt, LexFault> {
-    Ok(Stmt::If(If {
-        word: token(alloc, "if")?,
-        opening: token(alloc, "(")?,
-        test: expr(alloc, named(alloc, test)?),
-        closing: token(alloc, ")")?,
-        body: Boxed::new(alloc, body)?,
+) -> Result<Boxed<Stmt>, LexFault> {
+    let test = named(alloc, test)?;
+    let word = token(alloc, "if")?;
+    let opening = token(alloc, "(")?;
+    let closing = token(alloc, ")")?;
+    let chosen = Stmt::If(If {
+        word,
+        opening,
+        test: expr(alloc, test),
+        closing,
+        body,
         other,
-    }))
+    });
+    Ok(Boxed::new(alloc, chosen)?)
 }
 
 /// `if(a)if(b)c;else d;`, where the `else` is that of the inner `if` or else of the outer one
-fn nested(alloc: Global, is_nearer: bool) -> Result<Stmt, LexFault> {
+fn nested(alloc: Global, is_nearer: bool) -> Result<Boxed<Stmt>, LexFault> {
     let inmost = eval(alloc, named(alloc, "c")?)?;
     if is_nearer {
         let inner = choice(alloc, "b", inmost, other(alloc)?)?;
@@ -86,25 +96,31 @@ fn nested(alloc: Global, is_nearer: bool) -> Result<Stmt, LexFault> {
     choice(alloc, "a", inner, other(alloc)?)
 }
 
-/// The statement that a row names.
-fn statement(alloc: Global, form: &str, rest: &str) -> Result<Stmt, LexFault> {
+/// The chain that a row names.
+fn chain(alloc: Global, form: &str, rest: &str) -> Result<Boxed<Chain>, LexFault> {
     let chain = match (form, rest.split_once(' ')) {
-        ("else", _) => return nested(alloc, rest == "nearer"),
         ("level", Some((outer, inner))) => {
             let operand = level(alloc, inner, named(alloc, "a")?)?;
-            level(alloc, outer, operand)?
+            return level(alloc, outer, operand);
         }
-        ("level", None) => {
-            let first = Boxed::new(alloc, named(alloc, rest)?)?;
-            Chain::Level(first, Items::new(alloc))
-        }
+        ("level", None) => Chain::Level(named(alloc, rest)?, Items::new(alloc)),
         _ => operand(alloc, Primary::Number(token(alloc, rest)?)),
     };
-    eval(alloc, chain)
+    Ok(Boxed::new(alloc, chain)?)
+}
+
+/// The statement that a row names.
+fn statement(alloc: Global, form: &str, rest: &str) -> Result<Boxed<Stmt>, LexFault> {
+    if form == "else" {
+        return nested(alloc, rest == "nearer");
+    }
+    eval(alloc, chain(alloc, form, rest)?)
 }
 
 /// `void f(){` and a statement and `}`
-fn program(alloc: Global, statement: Stmt) -> Result<Tree, LexFault> {
+fn program(alloc: Global, statement: Boxed<Stmt>) -> Result<Tree, LexFault> {
+    let part = BlockPart::Stmt(statement.into_inner());
+    let parts = Items::from_vec(vec![in alloc; part]?);
     let function = Function {
         lead: None,
         returns: Returns::Void(token(alloc, "void")?),
@@ -114,7 +130,7 @@ fn program(alloc: Global, statement: Stmt) -> Result<Tree, LexFault> {
         closing: token(alloc, ")")?,
         body: Block {
             opening: token(alloc, "{")?,
-            parts: Items::from_vec(vec![in alloc; BlockPart::Stmt(statement)]?),
+            parts,
             closing: token(alloc, "}")?,
         },
     };

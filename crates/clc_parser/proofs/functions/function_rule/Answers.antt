@@ -1,4 +1,4 @@
-use Rattle.std.proofs.Common.{◌≡◌, ◌+◌, suc, subst, arith}
+use Rattle.std.proofs.Common.{◌≡◌, ◌+◌, suc, sym, subst, arith}
 use Rattle.clc_reading.specs.Reading.{Got}
 use Rattle.clc_tree.specs.StatementRules.{optional}
 use Rattle.clc_tree.specs.ProgramRules as spec
@@ -15,6 +15,7 @@ returns c =
     let mid = c.optional.new.tokens.left.now in
     let late = c.returns.new.tokens.left.now in
     let h = subst (λ n. optional n k.Lead ts ≡ Got c.in_ok-lead.lead mid) e c.in_ok-lead.ensures in
-    let g = subst (λ n. spec.result n mid ≡ Got c.in_ok-returns.returns late) e c.in_ok-returns.ensures in
+    let g = subst (λ n. spec.result n mid ≡ Got c.in_ok-returns.field-0 late) e c.in_ok-returns.ensures in
+    let boxed = subst (λ r. spec.result (suc c.args.inner) mid ≡ Got r late) (sym c.in_ok-returns-2.ensures) g in
     reads_later (optional (suc c.args.inner) k.Lead ts) c.in_ok-lead.lead mid _ c.function_from.result c.function_from.new.tokens.left.now h
-    (reads_later (spec.result (suc c.args.inner) mid) c.in_ok-returns.returns late (own.function_from c.args.inner c.in_ok-lead.lead) c.function_from.result c.function_from.new.tokens.left.now g c.function_from.ensures)
+    (reads_later (spec.result (suc c.args.inner) mid) c.in_ok-returns-2.returns late (own.function_from c.args.inner c.in_ok-lead.lead) c.function_from.result c.function_from.new.tokens.left.now boxed c.function_from.ensures)
