@@ -32,11 +32,7 @@ fn named(alloc: Global, name: &str) -> Result<Boxed<Chain>, LexFault> {
 }
 
 /// `a`, an operator and an operand
-fn level(
-    alloc: Global,
-    operator: &str,
-    operand: Boxed<Chain>,
-) -> Result<Boxed<Chain>, LexFault> {
+fn level(alloc: Global, operator: &str, operand: Boxed<Chain>) -> Result<Boxed<Chain>, LexFault> {
     let operator = token(alloc, operator)?;
     let operand = operand.into_inner();
     let steps = Items::from_vec(vec![in alloc; ChainStep { operator, operand }]?);
