@@ -63,6 +63,10 @@ fn parse_within(alloc: Global, tokens: &[Token], depths: u32) -> Result<Tree, Gr
     }
 }
 
+/// Drops a tree. That takes a proof for each kind of part, which is made here, where parts of trees are dropped anyway; a crate that drops
+/// trees by this call needs none of its own.
+pub fn discard(_tree: Tree) {}
+
 fn fault_of(stop: Stop, token: u32) -> GramFault
     ensures { result ≡ fault_at stop token }
 {

@@ -1,16 +1,16 @@
 //! From a source to a module.
 
-ghost use Rattle.std.specs.Prelude.{◌≡◌, ◌⊎◌, ◌<◌, ◌^◌, ℕ, Ok, Err, List, IfOk, OnOk, length};
+ghost use Rattle.std.specs.Prelude.{◌≡◌, ◌⊎◌, ◌<◌, ℕ, Ok, Err, List, IfOk, OnOk, length};
 ghost use Rattle.vc4q_module.specs.ModuleBytes.{ModuleOf, IsModule};
 ghost use Rattle.promise.specs.declared.refusal.SourceRule.{SourceRule as AnyRule};
-ghost use Rattle.compile_pipe.specs.Profile.{is_empty_block as is_empty_block_of, is_built as is_built_function, IsTyped, IsInProfile, IsFirstViolation};
+ghost use Rattle.compile_pipe.specs.Profile.{is_empty_block as is_empty_block_of, is_built as is_built_function, IsInProfile, IsFirstViolation};
+ghost use Rattle.clc_front.specs.Profile.{HasKernel};
 ghost use Rattle.compile_pipe.specs.EmptyCode.{empty_module};
 ghost use Rattle.compile_pipe.specs.Kernels.{IsFaithful};
 
-use crate::sources::typed_tree;
 use crate::words::EMPTY;
-use clc_check::kernel as kernel_number;
-use clc_types::{TFunction, TStmt, Typed};
+use clc_front::{WantedKernel, front};
+use clc_types::{TFunction, TStmt};
 use promise::{Refusal, SourceRule};
 use std::alloc::Global;
 use vc4q_module::{Memory, Module};
@@ -23,20 +23,14 @@ fn is_built(function: &TFunction) -> bool
         && matches!(&function.body, TStmt::Block(statements) if statements.is_empty())
 }
 
-/// Whether the wanted kernel of a source is there and its form is built.
-fn allow(typed: &Typed, kernel: &[u8]) -> Result<(), Refusal>
-    requires { length typed.now.functions < 2 ^ 32 }
-    ensures ok { OnOk result ((source : List ℕ) → IsTyped source typed.now → IsInProfile source kernel.now) }
+/// Whether the form of the wanted kernel of a source is built.
+fn allow(front: &WantedKernel) -> Result<(), Refusal>
+    requires { front.now.kernel < length front.now.typed.functions }
+    ensures ok { OnOk result ((source kernel : List ℕ) → HasKernel source kernel front.now.typed front.now.kernel → IsInProfile source kernel) }
     ensures err { (rule : AnyRule) (at : ℕ) → result ≡ Err (Refusal.Rule rule at)
-        → (source : List ℕ) → IsTyped source typed.now → IsFirstViolation source kernel.now rule at }
+        → (source kernel : List ℕ) → HasKernel source kernel front.now.typed front.now.kernel → IsFirstViolation source kernel rule at }
 {
-    let Some(number) = kernel_number(typed, kernel) else {
-        return Err(Refusal::Rule {
-            rule: SourceRule::K1,
-            at: 0,
-        });
-    };
-    let function = &typed.functions.as_slice()[number as usize];
+    let function = &front.typed.functions.as_slice()[front.kernel as usize];
     if !is_built(function) {
         return Err(Refusal::Rule {
             rule: SourceRule::N0,
@@ -68,8 +62,8 @@ fn module_of(alloc: Global, source: &[u8], kernel: &[u8]) -> Result<Module, Refu
     ensures refused { (rule : AnyRule) (at : ℕ) → result ≡ Err (Refusal.Rule rule at)
         → IsFirstViolation source.now kernel.now rule at }
 {
-    let typed = typed_tree(alloc, source)?;
-    allow(&typed, kernel)?;
+    let front = front(alloc, source, kernel)?;
+    allow(&front)?;
     match empty(alloc) {
         Ok(module) => Ok(module),
         Err(_) => Err(Refusal::Memory),

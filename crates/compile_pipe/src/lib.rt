@@ -8,5 +8,4 @@ pub use promise::{Refusal, SourceRule};
 
 mod compiling;
 mod laws;
-mod sources;
 mod words;

@@ -5,11 +5,11 @@ ghost use Rattle.clc_tree.specs.Flat.{flat_of};
 ghost use Rattle.clc_types.specs.Judged.{Fine};
 ghost use Rattle.clc_types.specs.Programs.{program};
 ghost use Rattle.promise.specs.declared.refusal.SourceRule.{SourceRule as AnyRule};
-ghost use Rattle.compile_pipe.specs.Profile.{IsSpelled, IsProgram, IsTyped, IsFirstViolation, lexical_rule as lexical_rule_of, typing_rule as typing_rule_of, place_of as place_of_token};
+ghost use Rattle.clc_front.specs.Profile.{IsSpelled, IsProgram, IsTyped, IsFirstViolation, lexical_rule as lexical_rule_of, typing_rule as typing_rule_of, place_of as place_of_token};
 
 use clc_check::check;
 use clc_lexer::{LexFault, LexRule, Token, lex};
-use clc_parser::{GramFault, parse};
+use clc_parser::{GramFault, discard, parse};
 use clc_tree::Tree;
 use clc_types::{TypeFault, Typed};
 use promise::{Refusal, SourceRule};
@@ -128,5 +128,7 @@ pub fn typed_tree(alloc: Global, source: &[u8]) -> Result<Typed, Refusal>
 {
     let tokens = tokens_of(alloc, source)?;
     let tree = program_of(alloc, source, &tokens)?;
-    typed_of(alloc, source, &tokens, &tree)
+    let typed = typed_of(alloc, source, &tokens, &tree);
+    discard(tree);
+    typed
 }

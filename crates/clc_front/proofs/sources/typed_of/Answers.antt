@@ -1,8 +1,8 @@
 use Rattle.std.proofs.Common.{sym, subst, ◌<◌, ◌^◌, length, Err}
 use Rattle.clc_types.specs.Programs.{program, Judges}
-use Rattle.compile_pipe.specs.Profile.{typing_rule, IsFirstViolation, typing}
-use Rattle.compile_pipe.proofs.SourceSteps.{few_tokens, few_typed, short_enough, checked_fine, checked_faulty, told}
-use Rattle.compile_pipe.proofs.sources.typed_of.Goals as goal
+use Rattle.clc_front.specs.Profile.{typing_rule, IsFirstViolation, typing}
+use Rattle.clc_front.proofs.SourceSteps.{few_tokens, few_typed, short_enough, checked_fine, checked_faulty, told}
+use Rattle.clc_front.proofs.sources.typed_of.Goals as goal
 
 pub check-requires : goal.check-requires
 check-requires c = subst (λ ts. length ts < 2 ^ 32) (sym c.requires.flat) (few_tokens c.args.source.now c.args.tokens.now c.requires.program.spelled)

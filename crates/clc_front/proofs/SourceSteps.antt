@@ -19,7 +19,7 @@ use Rattle.clc_types.specs.Programs.{program, kernel_of, Judges, Before, functio
 use Rattle.promise.specs.declared.refusal.SourceRule.{SourceRule}
 use Rattle.promise.specs.declared.refusal.Refusal.{Refusal}
 use Rattle.promise.specs.declared.refusal.Refusal.TheVariants.{Rule as Refused}
-use Rattle.compile_pipe.specs.Profile.{place_of, IsSpelled, IsWanted, IsFirstViolation}
+use Rattle.clc_front.specs.Profile.{place_of, IsSpelled, IsTyped, IsWanted, HasKernel, IsFirstViolation}
 
 -- ---- sizes
 
@@ -155,6 +155,12 @@ kernel_within fs x k e =
 
 pub wanted : (typed : Typed) (x : List ℕ) (k : ℕ) (f : TFunction) → kernel_of 0 typed.functions x ≡ Some k → f ≡ get_or typed.functions k f → IsWanted typed x f
 wanted typed x k f e is = record { number = k; named = e; there = kernel_there typed.functions x k f e is }
+
+pub wanted_at : (source x : List ℕ) (typed : Typed) (k : ℕ) (f : TFunction) → HasKernel source x typed k → f ≡ get_or typed.functions k f → IsWanted typed x f
+wanted_at source x typed k f h is = wanted typed x k f h.named is
+
+pub kernel_of_wanted : (source x : List ℕ) (typed : Typed) (f : TFunction) → IsTyped source typed → (w : IsWanted typed x f) → HasKernel source x typed w.number
+kernel_of_wanted source x typed f h w = record { is_typed = h; named = w.named; there = kernel_within typed.functions x w.number w.named }
 
 -- ---- refusals
 

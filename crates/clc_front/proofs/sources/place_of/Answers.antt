@@ -1,5 +1,5 @@
-use Rattle.compile_pipe.proofs.SourceSteps.{place_found, place_past}
-use Rattle.compile_pipe.proofs.sources.place_of.Goals as goal
+use Rattle.clc_front.proofs.SourceSteps.{place_found, place_past}
+use Rattle.clc_front.proofs.sources.place_of.Goals as goal
 
 pub returns-in-Some : goal.returns-in-Some
 returns-in-Some c =

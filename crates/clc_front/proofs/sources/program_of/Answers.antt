@@ -2,9 +2,9 @@ use Rattle.std.proofs.Common.{sym, subst}
 use Rattle.clc_reading.specs.Reading.{Wrong, Deep}
 use Rattle.clc_parser.specs.SourceTree.{IsFirstFault}
 use Rattle.promise.specs.declared.refusal.SourceRule.TheVariants.{G1, G2}
-use Rattle.compile_pipe.specs.Profile.{IsFirstViolation, grammar}
-use Rattle.compile_pipe.proofs.SourceSteps.{few_tokens, short_enough, told}
-use Rattle.compile_pipe.proofs.sources.program_of.Goals as goal
+use Rattle.clc_front.specs.Profile.{IsFirstViolation, grammar}
+use Rattle.clc_front.proofs.SourceSteps.{few_tokens, short_enough, told}
+use Rattle.clc_front.proofs.sources.program_of.Goals as goal
 
 pub parse-requires : goal.parse-requires
 parse-requires c = few_tokens c.args.source.now c.args.tokens.now c.requires

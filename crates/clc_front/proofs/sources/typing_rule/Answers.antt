@@ -1,8 +1,8 @@
 use Rattle.std.proofs.Common.{◌∙◌, ap, get_or, ◌-◌}
 use Rattle.promise.specs.declared.refusal.SourceRule.TheVariants.{S14}
-use Rattle.compile_pipe.specs.Profile.{typing_rules}
-use Rattle.compile_pipe.proofs.SourceSteps.{rule_past}
-use Rattle.compile_pipe.proofs.sources.typing_rule.Goals as goal
+use Rattle.clc_front.specs.Profile.{typing_rules}
+use Rattle.clc_front.proofs.SourceSteps.{rule_past}
+use Rattle.clc_front.proofs.sources.typing_rule.Goals as goal
 
 pub returns-in-None : goal.returns-in-None
 returns-in-None c =

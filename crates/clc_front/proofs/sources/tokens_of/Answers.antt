@@ -1,7 +1,7 @@
 use Rattle.std.proofs.Common.{sym, ap, subst, Err}
-use Rattle.compile_pipe.specs.Profile.{IsFirstViolation, bytes}
-use Rattle.compile_pipe.proofs.SourceSteps.{told}
-use Rattle.compile_pipe.proofs.sources.tokens_of.Goals as goal
+use Rattle.clc_front.specs.Profile.{IsFirstViolation, bytes}
+use Rattle.clc_front.proofs.SourceSteps.{told}
+use Rattle.clc_front.proofs.sources.tokens_of.Goals as goal
 
 pub returns-in-Err-Rule-clause-err : goal.returns-in-Err-Rule-clause-err
 returns-in-Err-Rule-clause-err c = λ kernel rule at e.

@@ -1,0 +1,84 @@
+-- Which sources have a kernel of a name, and the rule that another one violates first. OpenCL C 1.2, section 6: the tokens, the grammar and the typing
+-- rules are those of the front end's crates. The classes of rules and their order are this project's own.
+use Rattle.std.specs.Prelude.{◌≡◌, ℕ, zero, suc, ◌-◌, ◌<◌, List, [], ◌∷◌, length, get_or, slice_get, Some, None}
+use Rattle.clc_lexer.specs.declared.token.Token.{Token}
+use Rattle.clc_lexer.specs.declared.token.LexRule.{LexRule}
+use Rattle.clc_lexer.specs.declared.token.LexRule.TheVariants as lex
+use Rattle.clc_lexer.specs.SourceText.{IsLexed, IsFirstFault, HasNoFault}
+use Rattle.clc_reading.specs.Reading.{Reason, Wrong, Deep}
+use Rattle.clc_tree.specs.declared.functions.Tree.{Tree}
+use Rattle.clc_parser.specs.SourceTree.{IsText, FaultAt}
+use Rattle.clc_types.specs.declared.forms.Fault.{Fault}
+use Rattle.clc_types.specs.declared.typed.TFunction.{TFunction}
+use Rattle.clc_types.specs.declared.typed.Typed.{Typed}
+use Rattle.clc_types.specs.Judged.{Fine, Faulty, IsLeast}
+use Rattle.clc_types.specs.Programs.{program, kernel_of}
+use Rattle.promise.specs.declared.refusal.SourceRule.{SourceRule}
+use Rattle.promise.specs.declared.refusal.SourceRule.TheVariants.{L1, L2, L3, L4, L5, G1, G2, S1, S2, S3, S4, S5, S6, S7, S8, S9, S10, S11, S12, S13, S14, K1}
+
+-- ---- the rules under their names here
+
+abbrev pub lexical_rule : LexRule → SourceRule
+lexical_rule lex.L1 = L1
+lexical_rule lex.L2 = L2
+lexical_rule lex.L3 = L3
+lexical_rule lex.L4 = L4
+lexical_rule lex.L5 = L5
+
+abbrev pub grammar_rule : Reason → SourceRule
+grammar_rule Wrong = G1
+grammar_rule Deep = G2
+
+-- the typing rules in the order of their numbers, of which the first is 1; no rule has the number 0 or one above 14
+abbrev pub typing_rules : List SourceRule
+typing_rules = S1 ∷ S2 ∷ S3 ∷ S4 ∷ S5 ∷ S6 ∷ S7 ∷ S8 ∷ S9 ∷ S10 ∷ S11 ∷ S12 ∷ S13 ∷ S14 ∷ []
+
+abbrev pub typing_rule : ℕ → SourceRule
+typing_rule number = get_or typing_rules (number - 1) S14
+
+-- ---- sources and their programs
+
+-- the offset of token k's first byte, or of the end of the source where the tokens end before it
+abbrev pub place_of : (source : List ℕ) → List Token → (k : ℕ) → ℕ
+place_of source [] k = length source
+place_of source (t ∷ ts) zero = t.from
+place_of source (t ∷ ts) (suc k) = place_of source ts k
+
+-- no rule on bytes is violated, and these are the tokens
+pub record IsSpelled (source : List ℕ) (tokens : List Token) : Type 0 where
+  pub lexed : IsLexed source tokens
+  pub lawful : HasNoFault source
+
+-- the tokens are those of this program, in which none lies at a depth above 64
+pub record IsProgram (source : List ℕ) (tokens : List Token) (tree : Tree) : Type 0 where
+  pub spelled : IsSpelled source tokens
+  pub text : IsText 65 tree tokens
+
+-- the program violates no typing rule, and this is its typed tree
+pub record IsTyped (source : List ℕ) (typed : Typed) : Type 0 where
+  pub tokens : List Token
+  pub tree : Tree
+  pub is_program : IsProgram source tokens tree
+  pub fine : program tree ≡ Fine typed
+
+-- the kernel of that name is this function
+pub record IsWanted (typed : Typed) (kernel : List ℕ) (function : TFunction) : Type 0 where
+  pub number : ℕ
+  pub named : kernel_of 0 typed.functions kernel ≡ Some number
+  pub there : slice_get typed.functions number ≡ Some function
+
+-- no rule is violated for a kernel of that name: the typed tree has one, at this place among its functions
+pub record HasKernel (source kernel : List ℕ) (typed : Typed) (number : ℕ) : Type 0 where
+  pub is_typed : IsTyped source typed
+  pub named : kernel_of 0 typed.functions kernel ≡ Some number
+  pub there : number < length typed.functions
+
+-- The first violated rule and its offset. Rules on bytes come first, then those of the grammar, the typing rules and the name of the kernel; of one
+-- class the first is that of the class
+pub data IsFirstViolation (source kernel : List ℕ) : SourceRule → ℕ → Type 0 where
+  bytes : (rule : LexRule) (at : ℕ) → IsFirstFault source rule at → IsFirstViolation source kernel (lexical_rule rule) at
+  grammar : (tokens : List Token) (reason : Reason) (k : ℕ) → IsSpelled source tokens → FaultAt 65 reason k tokens
+      → IsFirstViolation source kernel (grammar_rule reason) (place_of source tokens k)
+  typing : (tokens : List Token) (tree : Tree) (one : Fault) (more : List Fault) (first : Fault) → IsProgram source tokens tree
+      → program tree ≡ Faulty one more → IsLeast first (one ∷ more) → IsFirstViolation source kernel (typing_rule first.rule) (place_of source tokens first.token)
+  no_kernel : (typed : Typed) → IsTyped source typed → kernel_of 0 typed.functions kernel ≡ None → IsFirstViolation source kernel K1 0
