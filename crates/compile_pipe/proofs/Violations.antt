@@ -1,6 +1,7 @@
 -- A source has one first violation at most for a kernel's name, and none where it is in the profile.
 use Rattle.std.proofs.Common.{◌≡◌, ℕ, List, Bool, true, false, refl, sym, ap, ◌∙◌, subst, inl, inr}
 use Rattle.std.specs.Prelude.{◌⊎◌, Result, Ok, Err, IfOk}
+use Rattle.std.specs.Result.{IsErrAnd}
 use Rattle.clc_types.specs.declared.typed.TFunction.{TFunction}
 use Rattle.clc_types.specs.declared.typed.Typed.{Typed}
 use Rattle.clc_front.specs.Profile.{IsTyped, IsWanted, HasKernel, IsFirstViolation as IsFirstOfFront}
@@ -43,6 +44,16 @@ told source kernel rule other at place e h =
     let same_rule : rule ≡ other = cc in
     let same_place : at ≡ place = cc in
     subst (λ r. IsFirstViolation source kernel r place) same_rule (subst (IsFirstViolation source kernel rule) same_place h)
+
+-- a refusal of the front end that is handed on
+pub handed_on : {A : Type 0} (source kernel : List ℕ) (result : Result A Refusal) (refusal : Refusal) → IsErrAnd result (λ r. r ≡ refusal)
+    → ((rule : SourceRule) (at : ℕ) → refusal ≡ Rule rule at → IsFirstOfFront source kernel rule at)
+    → (rule : SourceRule) (at : ℕ) → result ≡ Err (Rule rule at) → IsFirstViolation source kernel rule at
+handed_on source kernel (Ok a) refusal is first rule at e = absurd is
+handed_on source kernel (Err r) refusal is first rule at e = of_front rule at (first rule at (sym is ∙ same r (Rule rule at) e))
+  where
+    same : {A : Type 0} (r s : Refusal) → ◌≡◌ {A = Result A Refusal} (Err r) (Err s) → r ≡ s
+    same r s e = cc
 
 pub has_one_violation : HasOneViolation opencl
 has_one_violation = record {
