@@ -1,5 +1,5 @@
 -- Calls: arguments that parameters accept, and built-in functions.
-use Rattle.std.proofs.Common.{◌≡◌, ℕ, suc, Bool, true, false, not, ◌&&◌, ◌||◌, eqb, List, [], ◌∷◌, ◌++◌, Option, Some, None, take, slice_get, length, refl, sym, ap, ap₂, ◌∙◌, subst}
+use Rattle.std.proofs.Common.{◌≡◌, ℕ, suc, Bool, true, false, not, ◌&&◌, ◌||◌, eqb, List, [], ◌∷◌, ◌++◌, Option, Some, None, take, slice_get, length, refl, sym, ap, ap₂, ◌∙◌, subst, arith, eqb-true}
 use Rattle.std.specs.Prelude.{map}
 use Rattle.clc_lexer.specs.declared.token.Token.{Token}
 use Rattle.q_lane.specs.declared.kinds.Scalar.{Scalar}
@@ -80,9 +80,9 @@ same_number [] [] h = refl
 same_number [] (y ∷ ys) h = absurd h
 same_number (x ∷ xs) [] h = absurd h
 same_number (x ∷ xs) (y ∷ ys) h =
-    one_same (scalar_of x.kind) (x ∷ xs) (y ∷ ys) (all_are (scalar_of x.kind) (x ∷ xs)) h
-    ∙ ap (one_or_common (scalar_of x.kind) (y ∷ ys)) (same_all (scalar_of x.kind) (x ∷ xs) (y ∷ ys) h)
-    ∙ ap (λ s. one_or_common s (y ∷ ys) (all_are s (y ∷ ys))) h.0
+    one_same (scalar_of x.kind) (x ∷ xs) (y ∷ ys) (all_are (scalar_of x.kind) xs) h
+    ∙ ap (one_or_common (scalar_of x.kind) (y ∷ ys)) (same_all (scalar_of x.kind) xs ys h.1)
+    ∙ ap (λ s. one_or_common s (y ∷ ys) (all_are s ys)) h.0
 
 same_work : (f : Builtin) (xs ys : List Argument) → SameNumbers xs ys → work_of f xs ≡ work_of f ys
 same_work b.GetWorkDim xs ys h = refl
@@ -147,14 +147,14 @@ not_not : (x : Bool) → not x ≡ false → x ≡ true
 not_not true h = refl
 not_not false h = absurd (cc)
 
-numbers_passed : (ss : List Shape) (xs : List Argument) → AllNumbers ss → eqb (length ss) (length xs) ≡ true → fits ss xs ≡ [] → Numbers xs
+numbers_passed : (ss : List Shape) (xs : List Argument) → AllNumbers ss → length ss ≡ length xs → fits ss xs ≡ [] → Numbers xs
 numbers_passed [] [] a e h = tt
-numbers_passed [] (x ∷ xs) a e h = absurd (cc)
-numbers_passed (s ∷ ss) [] a e h = absurd (cc)
+numbers_passed [] (x ∷ xs) a e h = absurd (omega (arith, e))
+numbers_passed (s ∷ ss) [] a e h = absurd (omega (arith, e))
 numbers_passed (s ∷ ss) (x ∷ xs) a e h =
     let d = append_none (violations x.place ((7, not (matches (kind_of 0 s) x.kind)) ∷ [])) (fits ss xs) h in
     let m = not_not (matches (kind_of 0 s) x.kind) (not_violated x.place 7 (not (matches (kind_of 0 s) x.kind)) [] d.0).0 in
-    (number_matched x.kind (ap (λ z. matches (kind_of 0 z) x.kind) (sym a.0) ∙ m), numbers_passed ss xs a.1 e d.1)
+    (number_matched x.kind (ap (λ z. matches (kind_of 0 z) x.kind) (sym a.0) ∙ m), numbers_passed ss xs a.1 (omega (arith, e)) d.1)
 
 module _ (vars : List Var) (before : List TFunction) (result : Option Scalar) where
   pub record ArgumentSound (x : Argument) : Type 0 where
@@ -212,7 +212,7 @@ module _ (vars : List Var) (before : List TFunction) (result : Option Scalar) wh
       let xs = map (S vars before result) (exprs args) in
       let d = append_none (violations p ((6, not (eqb (length (builtin_params f)) (length args))) ∷ [])) (fits (builtin_params f) args) e in
       let c = not_not (eqb (length (builtin_params f)) (length args)) (not_violated p 6 (not (eqb (length (builtin_params f)) (length args))) [] d.0).0 in
-      let all = numbers_passed (builtin_params f) args (numbers_taken f) c d.1 in
+      let all = numbers_passed (builtin_params f) args (numbers_taken f) (eqb-true (length (builtin_params f)) (length args) c) d.1 in
       let w = work_of f args in
       let g = k.Value (gives f w) in
       plain_sound vars before result t.from g (n.Builtin f w (exprs args)) _ refl (seen_builtin vars before result t.from g f w (exprs args))

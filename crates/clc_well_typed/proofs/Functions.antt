@@ -1,5 +1,5 @@
 -- Each proper function is given a well-typed one.
-use Rattle.std.proofs.Common.{◌≡◌, ℕ, zero, suc, ◌+◌, ◌<◌, ◌≤◌, Bool, true, false, not, ◌&&◌, ◌||◌, eqb, List, [], ◌∷◌, ◌++◌, Option, Some, None, take, slice_get, length, is_some, refl, sym, ap, ◌∙◌, subst, arith, append-nil, append_assoc, eqb-true, eq-eqb, le-leb, inl, inr, ◌⊎◌, true≢false, zero-add}
+use Rattle.std.proofs.Common.{◌≡◌, ℕ, zero, suc, ◌+◌, ◌<◌, ◌≤◌, Bool, true, false, not, ◌&&◌, ◌||◌, eqb, List, [], ◌∷◌, ◌++◌, Option, Some, None, take, slice_get, length, is_some, refl, sym, ap, ◌∙◌, subst, arith, append-nil, append_assoc, eqb-true, eq-eqb, le-leb, inl, inr, ◌⊎◌, true≢false}
 use Rattle.std.specs.Prelude.{map, bytes_eq, nat_le, if◌then◌else◌}
 use Rattle.std.proofs.lemmas.Bool.{and_parts, cases_lt, eqb-false}
 use Rattle.clc_reading.specs.Reading.{Spelling}
@@ -29,7 +29,7 @@ use Rattle.clc_types.specs.Rules.{is_array as is_array_kind, matches, kind_of, v
 use Rattle.clc_types.specs.Names.{or_else, function_of, outermost, builtin_named, builtin_of}
 use Rattle.clc_types.specs.Blocks.{Decl, is_visible, last_visible, Around, Piece, nothing, quiet, past, ending, seq, made, declared, pointer_shape, block}
 use Rattle.clc_types.specs.Programs.{in_force, param_shape, param_tokens, param_name, counted, param_piece, further_params, params_piece, shapes_of, result_of, returns_tokens, heading, head, inside, function_piece, signature, Before, home_of, function_at}
-use Rattle.clc_well_typed.specs.WellTyped.{is_array, accepts, value_type, counts, declared as declared_in, no_arrays, function_fits}
+use Rattle.clc_well_typed.specs.WellTyped.{is_array, accepts, value_type, counts, together, declared as declared_in, no_arrays, function_fits}
 use Rattle.clc_well_typed.proofs.Judging.{fine_is, next_parts, unless_parts, append_none, not_violated, yes, yes6}
 use Rattle.clc_well_typed.proofs.Taken.{fitting}
 use Rattle.clc_well_typed.proofs.TypedNodes.{F, fits_block, declared_block}
@@ -82,14 +82,14 @@ pair_at (s ∷ ss) more (f ∷ fs) (suc i) h lt =
 
 -- ---- calls
 
-arguments_fit : (ss : List Shape) (xs : List Argument) → eqb (length ss) (length xs) ≡ true → fits ss xs ≡ [] → Accepted (map var_of ss) xs
+arguments_fit : (ss : List Shape) (xs : List Argument) → length ss ≡ length xs → fits ss xs ≡ [] → Accepted (map var_of ss) xs
 arguments_fit [] [] e h = tt
-arguments_fit [] (x ∷ xs) e h = absurd (cc)
-arguments_fit (s ∷ ss) [] e h = absurd (cc)
+arguments_fit [] (x ∷ xs) e h = absurd (omega (arith, e))
+arguments_fit (s ∷ ss) [] e h = absurd (omega (arith, e))
 arguments_fit (s ∷ ss) (x ∷ xs) e h =
     let d = append_none (violations x.place ((7, not (matches (kind_of 0 s) x.kind)) ∷ [])) (fits ss xs) h in
     let f = fitting (kind_of 0 s) x.kind (not_not (matches (kind_of 0 s) x.kind) (not_violated x.place 7 (not (matches (kind_of 0 s) x.kind)) [] d.0).0) in
-    (f.right, ap (λ z. accepts z (ty_of x.kind)) (value_typed s) ∙ f.accepts, arguments_fit ss xs e d.1)
+    (f.right, ap (λ z. accepts z (ty_of x.kind)) (value_typed s) ∙ f.accepts, arguments_fit ss xs (omega (arith, e)) d.1)
 
 -- what is called is no kernel and stands before
 record Passed (s : Signature) (f n : ℕ) (args : List Argument) : Type 0 where
@@ -118,7 +118,7 @@ called_by s f before i n args o e h a q = record {
   callee = f;
   found = h;
   kernel = a.kernel ∙ q.kernel;
-  fits = subst (λ z. Accepted z args) (sym a.params) (arguments_fit s.params args q.count q.fits);
+  fits = subst (λ z. Accepted z args) (sym a.params) (arguments_fit s.params args (eqb-true (length s.params) (length args) q.count) q.fits);
   typed = ap (λ z. ty_of (result_kind z)) a.returned ∙ ap (λ z. ty_of (call_kind z)) (sym e);
 }
 
@@ -393,8 +393,10 @@ typed_valid b done p f body h =
     let result = result_of f.returns in
     let k = length (shapes_of f.params) in
     let taken : take k vars ≡ map var_of (shapes_of f.params) = params_taken f.params p (p + (function_piece b.names f).tokens) _ _ in
+    let ds = together (map declared_in body) in
+    let begin : k ≡ 0 + k = omega arith in
     let c : counts k (length vars) (declared_in (st.Block body)) ≡ true =
-        ap (counts k (length vars)) (declared_block body) ∙ ap (λ z. counts k z _) (length_variables all) ∙ ap (λ z. counts z (length all) _) (sym (zero-add k)) ∙ h.1.1.1 in
+        ap (counts k (length vars)) (declared_block body) ∙ ap (λ z. counts k z ds) (length_variables all) ∙ ap (λ z. counts z (length all) ds) begin ∙ h.1.1.1 in
     record {
       fits = yes6 (le-leb k 16 h.1.0) (le-leb k (length vars) (counts_le k (length vars) (declared_in (st.Block body)) c)) (ap no_arrays taken ∙ params_plain f.params) (ap not h.0) c (fits_block vars done result body false ∙ h.1.1.0);
       alike = record { kernel = refl; returned = refl; params = taken };

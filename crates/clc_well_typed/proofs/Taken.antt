@@ -6,6 +6,7 @@ use Rattle.q_lane.specs.declared.kinds.Scalar.{Scalar}
 use Rattle.q_lane.specs.declared.kinds.Scalar.TheVariants.{Char, Uchar, Short, Ushort, Int, Uint}
 use Rattle.clc_types.specs.declared.typed.Ty.{Ty}
 use Rattle.clc_types.specs.declared.typed.Ty.TheVariants as ty
+use Rattle.clc_types.specs.declared.forms.Fault.{Fault}
 use Rattle.clc_types.specs.declared.forms.Kind.{Kind}
 use Rattle.clc_types.specs.declared.forms.Kind.TheVariants as k
 use Rattle.clc_types.specs.declared.forms.Place.{Place}
@@ -125,10 +126,10 @@ never : (q : ℕ) (x : Bool) → violations q ((12, not (x && false)) ∷ []) �
 never q true h = absurd (cc)
 never q false h = absurd (cc)
 
-abbrev left_needed : Mark → ℕ → Kind → List Rattle.clc_types.specs.declared.forms.Fault.Fault
+abbrev left_needed : Mark → ℕ → Kind → List Fault
 left_needed o p a = violations p ((3, is_void a) ∷ (12, is_array_kind a || (is_pointer_kind a && not (is_sum o))) ∷ [])
 
-abbrev right_needed : Mark → Kind → ℕ → Kind → List Rattle.clc_types.specs.declared.forms.Fault.Fault
+abbrev right_needed : Mark → Kind → ℕ → Kind → List Fault
 right_needed o a q b = violations q ((3, is_void b) ∷ (12, is_array_kind b || (is_pointer_kind b && not (is_plus o && is_scalar a))) ∷ [])
 
 taken_other : (o : Mark) (p q : ℕ) (a b : Kind) → left_needed o p a ++ right_needed o a q b ≡ [] → Taken o a b
