@@ -1,18 +1,14 @@
 -- Calls: arguments that parameters accept, and built-in functions.
-use Rattle.std.proofs.Common.{◌≡◌, ℕ, suc, Bool, true, false, not, ◌&&◌, ◌||◌, eqb, List, [], ◌∷◌, ◌++◌, Option, Some, None, take, slice_get, length, refl, sym, ap, ap₂, ◌∙◌, subst, arith, eqb-true}
+use Rattle.std.proofs.Common.{◌≡◌, ℕ, suc, Bool, true, false, not, ◌&&◌, ◌||◌, eqb, List, [], ◌∷◌, ◌++◌, Option, Some, None, take, slice_get, length, refl, sym, ap, ap₂, ◌∙◌, arith, eqb-true}
 use Rattle.std.specs.Prelude.{map}
 use Rattle.clc_lexer.specs.declared.token.Token.{Token}
 use Rattle.q_lane.specs.declared.kinds.Scalar.{Scalar}
-use Rattle.q_lane.specs.declared.kinds.Scalar.TheVariants.{Int}
 use Rattle.clc_types.specs.declared.typed.Builtin.{Builtin}
 use Rattle.clc_types.specs.declared.typed.Builtin.TheVariants as b
-use Rattle.clc_types.specs.declared.typed.Ty.{Ty}
 use Rattle.clc_types.specs.declared.typed.Ty.TheVariants as ty
 use Rattle.clc_types.specs.declared.typed.Var.{Var}
 use Rattle.clc_types.specs.declared.typed.Node.TheVariants as n
-use Rattle.clc_types.specs.declared.typed.TExpr.{TExpr}
 use Rattle.clc_types.specs.declared.typed.TFunction.{TFunction}
-use Rattle.clc_types.specs.declared.forms.Fault.{Fault}
 use Rattle.clc_types.specs.declared.forms.Shape.{Shape}
 use Rattle.clc_types.specs.declared.forms.Kind.{Kind}
 use Rattle.clc_types.specs.declared.forms.Kind.TheVariants as k
@@ -21,9 +17,9 @@ use Rattle.clc_types.specs.declared.forms.Form.{Form}
 use Rattle.clc_types.specs.declared.forms.Argument.{Argument}
 use Rattle.clc_types.specs.declared.forms.Signature.{Signature}
 use Rattle.clc_types.specs.Judged.{violations}
-use Rattle.clc_types.specs.Rules.{is_array as is_array_kind, is_scalar, same_scalar, matches, kind_of, ty_of, result_kind, call_kind, fits, number, builtin_params, builtin_needs, is_uint, int_or_uint, scalar_of, all_are, some_uint, one_or_common, number_type, work_of, gives}
+use Rattle.clc_types.specs.Rules.{is_array as is_array_kind, same_scalar, matches, kind_of, ty_of, result_kind, call_kind, fits, number, builtin_params, builtin_needs, is_uint, int_or_uint, scalar_of, all_are, some_uint, one_or_common, number_type, work_of, gives}
 use Rattle.clc_types.specs.Typing.{argument, exprs, call_form, builtin_form}
-use Rattle.clc_well_typed.specs.WellTyped.{Seen, is_number, is_value, same_type, accepts, argument_of, kind_of_type, value_type, all_values, types, all_accepted, is_call}
+use Rattle.clc_well_typed.specs.WellTyped.{is_number, same_type, accepts, kind_of_type, value_type, all_values, types, all_accepted, is_call}
 use Rattle.clc_well_typed.proofs.Judging.{append_none, not_violated, yes, yes3, yes4}
 use Rattle.clc_well_typed.proofs.Taken.{same_self, scalar_same, scalar_kept}
 use Rattle.clc_well_typed.proofs.TypedNodes.{S, seen_call, seen_builtin}

@@ -1,5 +1,5 @@
 -- Each proper expression is given a well-typed form.
-use Rattle.std.proofs.Common.{◌≡◌, ℕ, suc, ◌<◌, ◌≤◌, Bool, true, false, ◌||◌, eqb, List, [], ◌∷◌, Option, Some, None, refl, sym, ap, ◌∙◌, subst, arith, lt-ltb, eqb-true}
+use Rattle.std.proofs.Common.{◌≡◌, ℕ, ◌<◌, ◌≤◌, true, eqb, List, ◌∷◌, Option, Some, None, refl, sym, subst, arith, lt-ltb, eqb-true}
 use Rattle.std.specs.Prelude.{map, nat_lt}
 use Rattle.std.proofs.lemmas.Bool.{or_left}
 use Rattle.clc_lexer.specs.declared.token.Token.{Token}
@@ -19,14 +19,12 @@ use Rattle.clc_tree.specs.declared.expressions.CommaStep.{CommaStep}
 use Rattle.clc_tree.specs.declared.expressions.Cond.{Cond}
 use Rattle.clc_tree.specs.declared.expressions.Expr.{Expr}
 use Rattle.clc_tree.specs.declared.expressions.Post.{Post}
-use Rattle.clc_tree.specs.declared.expressions.Assign.TheOpen as o
 use Rattle.q_lane.specs.declared.kinds.Scalar.{Scalar}
 use Rattle.clc_types.specs.declared.typed.Var.{Var}
 use Rattle.clc_types.specs.declared.typed.TFunction.{TFunction}
 use Rattle.clc_types.specs.Words.{mark_in, mark_of}
 use Rattle.clc_types.specs.Typing.{judge, judge_assign}
 use Rattle.clc_well_typed.specs.WellTyped.{is_comma, is_operator, is_assignment}
-use Rattle.clc_well_typed.proofs.Forms.{Sound}
 use Rattle.clc_well_typed.proofs.Parts.{Valid, name_valid, number_valid, step_valid, prefix_valid, cast_valid, paren_valid, assign_valid, ChoicesValid, conditional_valid, OperandValid, AllOperands, chain_valid, AllValid, SeriesValid, series_valid, SuffixValid, AllSuffixes, suffixes_valid, arguments_valid, no_arguments_valid, call_valid}
 use Rattle.clc_well_typed.proofs.SourceExpressions.{j_assign, j_cast, j_chain, j_post_step, j_primary, j_unary, j_chain_step, j_choice, j_comma_step, j_cond, j_expr, j_post, assign_cond, assign_set, cast_to, cast_of, chain_one, chain_level, post_step_index, post_step_step, primary_name, primary_number, primary_paren, primary_call0, primary_call, unary_post, unary_step, unary_prefix, chain_step_is, choice_is, comma_step_is, cond_test_is, cond_choice_is, expr_is, post_is}
 

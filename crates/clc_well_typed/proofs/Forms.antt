@@ -1,5 +1,5 @@
 -- Each form that an expression's operands make is well typed, where the rules find no fault.
-use Rattle.std.proofs.Common.{◌≡◌, ℕ, Bool, true, false, not, ◌&&◌, ◌||◌, List, [], ◌∷◌, ◌++◌, Option, Some, None, slice_get, refl, sym, ap, ap₂, ◌∙◌, subst, true≢false}
+use Rattle.std.proofs.Common.{◌≡◌, ℕ, Bool, true, false, not, ◌&&◌, ◌||◌, List, [], ◌∷◌, ◌++◌, Option, Some, slice_get, refl, sym, ap, ap₂, ◌∙◌, subst, true≢false}
 use Rattle.std.specs.Prelude.{map}
 use Rattle.clc_lexer.specs.declared.token.Token.{Token}
 use Rattle.clc_lexer.specs.declared.marks.Mark.{Mark}
@@ -7,7 +7,6 @@ use Rattle.clc_lexer.specs.declared.marks.Mark.TheVariants as m
 use Rattle.clc_tree.specs.declared.expressions.Scalar.{Scalar as Written}
 use Rattle.q_lane.specs.declared.kinds.Scalar.{Scalar}
 use Rattle.q_lane.specs.declared.kinds.Scalar.TheVariants.{Int, Uint}
-use Rattle.clc_types.specs.declared.typed.Ty.{Ty}
 use Rattle.clc_types.specs.declared.typed.Ty.TheVariants as ty
 use Rattle.clc_types.specs.declared.typed.Var.{Var}
 use Rattle.clc_types.specs.declared.typed.Var.TheVariants as var
@@ -24,11 +23,11 @@ use Rattle.clc_types.specs.declared.forms.Place.TheVariants as place
 use Rattle.clc_types.specs.declared.forms.Form.{Form}
 use Rattle.clc_types.specs.declared.forms.Sofar.{Sofar}
 use Rattle.clc_types.specs.Words.{mark_of, value_of, is_unsigned, is_increment, type_of}
-use Rattle.clc_types.specs.Rules.{is_void, is_array as is_array_kind, is_nowhere, is_constant, is_locked, kind_of, place_if, var_of, ty_of, int_or_uint, scalar_needed, indexed_needed, pointer_needed, step_needs, index_needs, operands_needed, operator_of, result_of, prefix_kind, common, scalar_of, conditional_needs, assigned_needed, value_needed}
+use Rattle.clc_types.specs.Rules.{is_void, is_array as is_array_kind, is_nowhere, is_constant, is_locked, place_if, var_of, ty_of, int_or_uint, scalar_needed, indexed_needed, pointer_needed, step_needs, index_needs, operands_needed, operator_of, result_of, prefix_kind, common, scalar_of, conditional_needs, assigned_needed, value_needed}
 use Rattle.clc_types.specs.Typing.{expr_of, at_of, plain, number_form, variable_form, paren_form, index_form, deref_form, post_form, step_form, prefix_form, cast_form, first_of_chain, further, chain_form, conditional_form, assign_form}
 use Rattle.clc_well_typed.specs.WellTyped.{Seen, is_number, is_value, is_open, same_type, points_to, kind_of_type, is_prefix, is_operator, is_assignment, takes, assigns, is_variable, is_array_of, combined, chained, seen_value, seen_place}
 use Rattle.clc_well_typed.proofs.Judging.{append_none, not_violated, yes, yes3, yes4, yes6}
-use Rattle.clc_well_typed.proofs.Taken.{same_self, scalar_kept, result_kept, scalar_found, Taken, taken, taken_plain, writable, Assigned, assigned}
+use Rattle.clc_well_typed.proofs.Taken.{same_self, scalar_kept, result_kept, scalar_found, taken, taken_plain, writable, assigned}
 use Rattle.clc_well_typed.proofs.TypedNodes.{S, each, seen_number, seen_name, seen_index, seen_element, seen_deref, seen_prefix, seen_step, seen_cast, seen_paren, seen_chain, seen_cond, seen_assign}
 
 -- what is seen of an expression of this kind that is this place
@@ -183,7 +182,7 @@ module _ (vars : List Var) (before : List TFunction) (result : Option Scalar) wh
       let a = number_read q x e h in
       let u = mark_of t in
       let d : ty_of (prefix_kind u (kind_of_type (S vars before result x.expr).ty)) ≡ ty_of (prefix_kind u x.kind) =
-          ap (λ z. ty_of (prefix_kind u (kind_of_type z))) (a.reads.typed ∙ ap ty_of a.kind) ∙ ap (λ z. ty_of (prefix_kind u z)) (sym a.kind) in
+      ap (λ z. ty_of (prefix_kind u (kind_of_type z))) (a.reads.typed ∙ ap ty_of a.kind) ∙ ap (λ z. ty_of (prefix_kind u z)) (sym a.kind) in
       plain_sound t.from (prefix_kind u x.kind) (n.Prefix u x.expr) _ (prefix_plain u x.kind) (seen_prefix vars before result t.from (prefix_kind u x.kind) u x.expr)
       (yes3 a.value o (ap (same_type (ty_of (prefix_kind u x.kind))) d ∙ same_self (ty_of (prefix_kind u x.kind))))
 
@@ -230,7 +229,7 @@ module _ (vars : List Var) (before : List TFunction) (result : Option Scalar) wh
       let so_far = chained (S vars before result a.first) (map (each vars before result) a.rest) in
       let last : Mark × TExpr = (o, y.expr) in
       let is : chained (S vars before result a.first) (map (each vars before result) (a.rest ++ last ∷ [])) ≡ combined so_far (o, S vars before result y.expr) =
-          ap (chained (S vars before result a.first)) (map_last (each vars before result) a.rest last) ∙ chained_last (S vars before result a.first) (map (each vars before result) a.rest) (o, S vars before result y.expr) in
+      ap (chained (S vars before result a.first)) (map_last (each vars before result) a.rest last) ∙ chained_last (S vars before result a.first) (map (each vars before result) a.rest) (o, S vars before result y.expr) in
       let c = taken_plain o a.kind y.kind d.right in
       record {
         cell = no_cell (result_of (operator_of o) a.kind y.kind) c;

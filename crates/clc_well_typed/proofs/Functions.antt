@@ -1,6 +1,6 @@
 -- Each proper function is given a well-typed one.
 use Rattle.std.proofs.Common.{◌≡◌, ℕ, zero, suc, ◌+◌, ◌<◌, ◌≤◌, Bool, true, false, not, ◌&&◌, ◌||◌, eqb, List, [], ◌∷◌, ◌++◌, Option, Some, None, take, slice_get, length, is_some, refl, sym, ap, ◌∙◌, subst, arith, append-nil, append_assoc, eqb-true, eq-eqb, le-leb, inl, inr, ◌⊎◌, true≢false}
-use Rattle.std.specs.Prelude.{map, bytes_eq, nat_le, if◌then◌else◌}
+use Rattle.std.specs.Prelude.{map, bytes_eq, if◌then◌else◌}
 use Rattle.std.proofs.lemmas.Bool.{and_parts, cases_lt, eqb-false}
 use Rattle.clc_reading.specs.Reading.{Spelling}
 use Rattle.clc_lexer.specs.declared.token.Token.{Token}
@@ -18,25 +18,24 @@ use Rattle.clc_types.specs.declared.typed.TStmt.{TStmt}
 use Rattle.clc_types.specs.declared.typed.TStmt.TheVariants as st
 use Rattle.clc_types.specs.declared.typed.TFunction.{TFunction}
 use Rattle.clc_types.specs.declared.forms.Shape.{Shape}
-use Rattle.clc_types.specs.declared.forms.Shape.TheVariants as shape
 use Rattle.clc_types.specs.declared.forms.Named.{Named}
 use Rattle.clc_types.specs.declared.forms.Named.TheVariants as nm
 use Rattle.clc_types.specs.declared.forms.Argument.{Argument}
 use Rattle.clc_types.specs.declared.forms.Signature.{Signature}
-use Rattle.clc_types.specs.Judged.{Judged, Fine, next, unless, violations, Context, Part}
-use Rattle.clc_types.specs.Words.{name_of, type_of, type_tokens, one_if, is_kernel}
-use Rattle.clc_types.specs.Rules.{is_array as is_array_kind, matches, kind_of, var_of, ty_of, result_kind, call_kind, fits, is_highest, signed_needs, call_needs}
+use Rattle.clc_types.specs.Judged.{Fine, violations}
+use Rattle.clc_types.specs.Words.{name_of, one_if, is_kernel}
+use Rattle.clc_types.specs.Rules.{matches, kind_of, var_of, ty_of, result_kind, call_kind, fits, is_highest, signed_needs, call_needs}
 use Rattle.clc_types.specs.Names.{or_else, function_of, outermost, builtin_named, builtin_of}
-use Rattle.clc_types.specs.Blocks.{Decl, is_visible, last_visible, Around, Piece, nothing, quiet, past, ending, seq, made, declared, pointer_shape, block}
+use Rattle.clc_types.specs.Blocks.{Decl, is_visible, last_visible, Around, nothing, quiet, past, seq, declared, block}
 use Rattle.clc_types.specs.Programs.{in_force, param_shape, param_tokens, param_name, counted, param_piece, further_params, params_piece, shapes_of, result_of, returns_tokens, heading, head, inside, function_piece, signature, Before, home_of, function_at}
-use Rattle.clc_well_typed.specs.WellTyped.{is_array, accepts, value_type, counts, together, declared as declared_in, no_arrays, function_fits}
+use Rattle.clc_well_typed.specs.WellTyped.{is_array, accepts, counts, together, declared as declared_in, no_arrays, function_fits}
 use Rattle.clc_well_typed.proofs.Judging.{fine_is, next_parts, unless_parts, append_none, not_violated, yes, yes6}
 use Rattle.clc_well_typed.proofs.Taken.{fitting}
-use Rattle.clc_well_typed.proofs.TypedNodes.{F, fits_block, declared_block}
+use Rattle.clc_well_typed.proofs.TypedNodes.{fits_block, declared_block}
 use Rattle.clc_well_typed.proofs.Calls.{Accepted, Called}
-use Rattle.clc_well_typed.proofs.Parts.{Ready, Gives}
-use Rattle.clc_well_typed.proofs.Places.{Below, Above, at_length, length_last}
-use Rattle.clc_well_typed.proofs.Pieces.{variable_of, Still, Both, Numbered, Placed, Stands, nothing_stands, quiet_stands, past_stands, ending_stands, made_stands, seq_stands, declared_stands}
+use Rattle.clc_well_typed.proofs.Parts.{Gives}
+use Rattle.clc_well_typed.proofs.Places.{at_length, length_last}
+use Rattle.clc_well_typed.proofs.Pieces.{variable_of, Still, Both, Numbered, Placed, Stands, quiet_stands, past_stands, ending_stands, made_stands, seq_stands, declared_stands}
 use Rattle.clc_well_typed.proofs.Statements.{value_typed, OkStmts, block_stands}
 
 not_not : (x : Bool) → not x ≡ false → x ≡ true
@@ -396,7 +395,7 @@ typed_valid b done p f body h =
     let ds = together (map declared_in body) in
     let begin : k ≡ 0 + k = omega arith in
     let c : counts k (length vars) (declared_in (st.Block body)) ≡ true =
-        ap (counts k (length vars)) (declared_block body) ∙ ap (λ z. counts k z ds) (length_variables all) ∙ ap (λ z. counts z (length all) ds) begin ∙ h.1.1.1 in
+    ap (counts k (length vars)) (declared_block body) ∙ ap (λ z. counts k z ds) (length_variables all) ∙ ap (λ z. counts z (length all) ds) begin ∙ h.1.1.1 in
     record {
       fits = yes6 (le-leb k 16 h.1.0) (le-leb k (length vars) (counts_le k (length vars) (declared_in (st.Block body)) c)) (ap no_arrays taken ∙ params_plain f.params) (ap not h.0) c (fits_block vars done result body false ∙ h.1.1.0);
       alike = record { kernel = refl; returned = refl; params = taken };

@@ -1,5 +1,5 @@
 -- Parts of expressions give well-typed forms, where what is in force names variables and functions that are there.
-use Rattle.std.proofs.Common.{◌≡◌, ℕ, ◌+◌, ◌<◌, Bool, true, false, List, [], ◌∷◌, ◌++◌, Option, Some, None, slice_get, refl, sym, ap, ◌∙◌, subst}
+use Rattle.std.proofs.Common.{◌≡◌, ℕ, ◌+◌, true, List, [], ◌∷◌, ◌++◌, Option, Some, None, slice_get, refl, sym, ap, subst}
 use Rattle.std.specs.Prelude.{map}
 use Rattle.clc_lexer.specs.declared.token.Token.{Token}
 use Rattle.clc_lexer.specs.declared.marks.Mark.{Mark}
@@ -8,7 +8,6 @@ use Rattle.clc_tree.specs.Kinds as kinds
 use Rattle.clc_tree.specs.declared.expressions.Scalar.{Scalar as Written}
 use Rattle.clc_tree.specs.declared.expressions.Assign.TheOpen as o
 use Rattle.q_lane.specs.declared.kinds.Scalar.{Scalar}
-use Rattle.clc_types.specs.declared.typed.Builtin.{Builtin}
 use Rattle.clc_types.specs.declared.typed.Var.{Var}
 use Rattle.clc_types.specs.declared.typed.TFunction.{TFunction}
 use Rattle.clc_types.specs.declared.forms.Fault.{Fault}
@@ -18,10 +17,10 @@ use Rattle.clc_types.specs.declared.forms.Named.TheVariants as nm
 use Rattle.clc_types.specs.declared.forms.Form.{Form}
 use Rattle.clc_types.specs.declared.forms.Sofar.{Sofar}
 use Rattle.clc_types.specs.declared.forms.Argument.{Argument}
-use Rattle.clc_types.specs.Judged.{Judged, Fine, Faulty, both, next, unless, Context, Part, none, one, two, leaf}
+use Rattle.clc_types.specs.Judged.{Fine, both, unless, Context, Part, none, one, two}
 use Rattle.clc_types.specs.Words.{name_of, mark_of, type_tokens}
 use Rattle.clc_types.specs.Rules.{var_of, scalar_needed, pointer_needed, step_needs, index_needs, operator_needs, conditional_needs, assign_needs, call_needs, call_kind, builtin_needs}
-use Rattle.clc_types.specs.Typing.{number_form, paren_form, index_form, deref_form, post_form, step_form, prefix_form, cast_form, first_of_chain, further, chain_form, Couple, couple, conditional_form, assign_form, argument, call_form, builtin_form, name_at, callee_at, called, Operand, Series, Suffix, At, Stepped, Choices, start, operators, chain, after_comma, series, further_arguments, first_argument, no_arguments, arguments, suffixes, primary_part, prefixed, conditional}
+use Rattle.clc_types.specs.Typing.{paren_form, index_form, deref_form, post_form, step_form, prefix_form, cast_form, first_of_chain, further, chain_form, Couple, couple, conditional_form, assign_form, argument, call_form, builtin_form, name_at, callee_at, called, Operand, Series, Suffix, At, Stepped, Choices, start, operators, chain, after_comma, series, further_arguments, first_argument, arguments, suffixes, primary_part, prefixed, conditional}
 use Rattle.clc_well_typed.specs.WellTyped.{is_prefix, is_operator, is_assignment}
 use Rattle.clc_well_typed.proofs.Judging.{fine_is, next_parts, both_parts, unless_parts}
 use Rattle.clc_well_typed.proofs.Forms.{Sound, number_sound, variable_sound, paren_sound, index_sound, deref_sound, post_sound, step_sound, prefix_sound, cast_sound, conditional_sound, assign_sound, SofarSound, first_sound, further_sound, chain_sound}

@@ -1,16 +1,15 @@
 -- Pieces of a function's text: what each gives holds, and its variables are numbered in order.
-use Rattle.std.proofs.Common.{◌≡◌, ℕ, suc, ◌+◌, ◌<◌, ◌≤◌, Bool, true, false, List, [], ◌∷◌, ◌++◌, Option, Some, None, slice_get, length, refl, sym, ap, ◌∙◌, subst, arith, append-nil, append_assoc}
+use Rattle.std.proofs.Common.{◌≡◌, ℕ, suc, ◌+◌, Bool, true, List, [], ◌∷◌, ◌++◌, Option, Some, slice_get, length, sym, ap, ◌∙◌, subst, arith, append-nil, append_assoc}
 use Rattle.std.specs.Prelude.{map}
 use Rattle.clc_lexer.specs.declared.token.Token.{Token}
 use Rattle.q_lane.specs.declared.kinds.Scalar.{Scalar}
 use Rattle.clc_types.specs.declared.typed.Var.{Var}
 use Rattle.clc_types.specs.declared.typed.TFunction.{TFunction}
-use Rattle.clc_types.specs.declared.forms.Fault.{Fault}
 use Rattle.clc_types.specs.declared.forms.Shape.{Shape}
-use Rattle.clc_types.specs.Judged.{Judged, Fine, both, next, unless, violations, Part}
+use Rattle.clc_types.specs.Judged.{Fine, violations, Part}
 use Rattle.clc_types.specs.Words.{name_of}
 use Rattle.clc_types.specs.Rules.{var_of}
-use Rattle.clc_types.specs.Blocks.{Decl, is_again, earlier, Around, Piece, nothing, quiet, past, ending, seq, made, maybe, listed, opened, looping, declared}
+use Rattle.clc_types.specs.Blocks.{Decl, is_again, earlier, Around, Piece, nothing, quiet, past, ending, seq, made, opened, looping, declared}
 use Rattle.clc_well_typed.proofs.Judging.{fine_is, next_parts, both_parts, unless_parts}
 use Rattle.clc_well_typed.proofs.Parts.{Ready, Gives}
 use Rattle.clc_well_typed.proofs.Places.{Ordered, Below, Above, ordered_wider, ordered_append, ordered_below, ordered_above, above_lower, below_upper, below_append, above_append, earlier_is, at_length, length_last}
@@ -104,9 +103,9 @@ module _ (vars : List Var) (before : List TFunction) (result : Option Scalar) wh
         let e1 : c.all ≡ (done ++ ds) ++ (es ++ rest) = e0 ∙ sym (append_assoc done ds (es ++ rest)) in
         let up0 : Above (mid + b.tokens) rest = above_lower (mid + b.tokens) (p + (a.tokens + b.tokens)) rest (omega arith) up in
         let first = g.fine c pl l from upto p done (es ++ rest) e0 low
-            (above_append mid es rest (ordered_above mid (mid + b.tokens) es (h.order from upto mid)) (above_lower mid (mid + b.tokens) rest (omega arith) up0)) y.0 d.0 in
+        (above_append mid es rest (ordered_above mid (mid + b.tokens) es (h.order from upto mid)) (above_lower mid (mid + b.tokens) rest (omega arith) up0)) y.0 d.0 in
         let second = h.fine c pl l from upto mid (done ++ ds) rest e1
-            (below_append mid done ds (below_upper p mid done (omega arith) low) (ordered_below p mid ds (g.order from upto p))) up0 y.1 d.1 in
+        (below_append mid done ds (below_upper p mid done (omega arith) low) (ordered_below p mid ds (g.order from upto p))) up0 y.1 d.1 in
         (length (done ++ ds), first, subst (λ z. Q l (length (done ++ ds)) (length z) y.1) (append_assoc done ds es) second);
   }
 

@@ -1,6 +1,6 @@
 -- The declarations of a part of a function's text stand in order, between those before and those after it.
-use Rattle.std.proofs.Common.{◌≡◌, ℕ, suc, ◌+◌, ◌<◌, ◌≤◌, Bool, true, false, List, [], ◌∷◌, ◌++◌, Option, Some, None, slice_get, length, refl, sym, ap, ◌∙◌, subst, arith, lt-ltb, le-ltb, eq-eqb, eqb-true, eqb, ◌&&◌}
-use Rattle.std.specs.Prelude.{map, nat_lt, if◌then◌else◌}
+use Rattle.std.proofs.Common.{◌≡◌, ℕ, suc, ◌<◌, ◌≤◌, true, List, [], ◌∷◌, ◌++◌, Some, slice_get, length, refl, sym, ap, ◌∙◌, subst, arith, lt-ltb, le-ltb, eq-eqb, eqb-true, eqb}
+use Rattle.std.specs.Prelude.{map, if◌then◌else◌}
 use Rattle.std.proofs.lemmas.Bool.{and_parts}
 use Rattle.clc_types.specs.Blocks.{Decl, earlier}
 use Rattle.clc_well_typed.specs.WellTyped.{counts}

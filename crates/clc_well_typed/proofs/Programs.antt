@@ -1,5 +1,5 @@
 -- What the typing rules give to a proper program is well typed.
-use Rattle.std.proofs.Common.{◌≡◌, ℕ, suc, ◌+◌, Bool, true, ◌&&◌, List, [], ◌∷◌, ◌++◌, length, refl, sym, ap, ◌∙◌, subst}
+use Rattle.std.proofs.Common.{◌≡◌, ℕ, suc, ◌+◌, true, List, [], ◌∷◌, ◌++◌, refl, sym, ap, ◌∙◌}
 use Rattle.clc_reading.specs.Reading.{Spelling}
 use Rattle.clc_lexer.specs.declared.token.Token.{Token}
 use Rattle.clc_tree.specs.Programs as g
@@ -8,10 +8,10 @@ use Rattle.clc_tree.specs.declared.functions.Function.{Function}
 use Rattle.clc_tree.specs.declared.functions.Tree.{Tree}
 use Rattle.clc_types.specs.declared.typed.TFunction.{TFunction}
 use Rattle.clc_types.specs.declared.typed.Typed.{Typed}
-use Rattle.clc_types.specs.Judged.{Judged, Fine, both, next}
+use Rattle.clc_types.specs.Judged.{Fine, both}
 use Rattle.clc_types.specs.Words.{name_of}
 use Rattle.clc_types.specs.Programs.{function_piece, signature, Before, height_in, function_at, with_function, functions_at, no_function, program}
-use Rattle.clc_well_typed.specs.WellTyped.{function_fits, functions_fit, is_well_typed}
+use Rattle.clc_well_typed.specs.WellTyped.{functions_fit, is_well_typed}
 use Rattle.clc_well_typed.proofs.Judging.{fine_is, next_parts, both_parts, yes}
 use Rattle.clc_well_typed.proofs.Places.{length_last}
 use Rattle.clc_well_typed.proofs.Functions.{Known, Valid, alike_last, function_valid}

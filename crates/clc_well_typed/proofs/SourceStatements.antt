@@ -1,5 +1,5 @@
 -- What a statement's parts are judged to be, node by node.
-use Rattle.std.proofs.Common.{◌≡◌, ℕ, List, Option, Some, None, sym, ap, ◌∙◌}
+use Rattle.std.proofs.Common.{◌≡◌, List, Option, Some, None, sym, ap, ◌∙◌}
 use Rattle.std.specs.Prelude.{map}
 use Rattle.clc_lexer.specs.declared.token.Token.{Token}
 use Rattle.clc_tree.specs.Statements as g
@@ -19,7 +19,7 @@ use Rattle.clc_tree.specs.declared.statements.Stmt.TheVariants as stmt
 use Rattle.clc_tree.specs.declared.statements.BlockPart.TheOpen as o
 use Rattle.clc_tree.specs.declared.statements.BlockPart.TheFolds as f
 use Rattle.clc_types.specs.declared.typed.TStmt.{TStmt}
-use Rattle.clc_types.specs.Blocks.{Piece, block, block_part_piece, stmt_piece, block_piece, do_piece, else_piece, for_piece, if_piece, while_piece}
+use Rattle.clc_types.specs.Blocks.{Piece, block_part_piece, stmt_piece, block_piece, do_piece, else_piece, for_piece, if_piece, while_piece}
 
 abbrev pub j_block_part : BlockPart → Piece (List TStmt)
 j_block_part = f.fold-BlockPart (Piece (List TStmt)) (Piece TStmt) (Piece (List TStmt)) (Piece TStmt) (Piece TStmt) (Piece TStmt) (Piece TStmt) (Piece TStmt) block_part_piece stmt_piece block_piece do_piece else_piece for_piece if_piece while_piece

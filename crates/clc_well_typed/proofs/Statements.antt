@@ -1,12 +1,11 @@
 -- Each proper statement is given a well-typed one.
-use Rattle.std.proofs.Common.{◌≡◌, ℕ, suc, ◌+◌, ◌≤◌, Bool, true, false, not, ◌&&◌, ◌||◌, List, [], ◌∷◌, ◌++◌, Option, Some, None, slice_get, length, is_some, refl, sym, ap, ◌∙◌, subst, arith, append-nil, append_assoc, true≢false}
+use Rattle.std.proofs.Common.{◌≡◌, ℕ, ◌+◌, Bool, true, false, not, List, [], ◌∷◌, ◌++◌, Option, Some, None, length, is_some, refl, sym, ap, ◌∙◌, subst, arith, append-nil, append_assoc, true≢false}
 use Rattle.std.specs.Prelude.{map}
 use Rattle.std.proofs.lemmas.Bool.{and_parts}
 use Rattle.clc_lexer.specs.declared.token.Token.{Token}
 use Rattle.clc_reading.specs.Reading.{Spelling}
-use Rattle.clc_tree.specs.Expressions.{IsExpr, IsAssign}
+use Rattle.clc_tree.specs.Expressions.{IsExpr}
 use Rattle.clc_tree.specs.Statements as g
-use Rattle.clc_tree.specs.declared.expressions.Assign.{Assign}
 use Rattle.clc_tree.specs.declared.expressions.Expr.{Expr}
 use Rattle.clc_tree.specs.declared.statements.Init.{Init}
 use Rattle.clc_tree.specs.declared.statements.Item.{Item}
@@ -17,33 +16,30 @@ use Rattle.clc_tree.specs.declared.statements.Block.{Block}
 use Rattle.clc_tree.specs.declared.statements.BlockPart.{BlockPart}
 use Rattle.clc_tree.specs.declared.statements.Stmt.{Stmt}
 use Rattle.q_lane.specs.declared.kinds.Scalar.{Scalar}
-use Rattle.clc_types.specs.declared.typed.Ty.{Ty}
 use Rattle.clc_types.specs.declared.typed.Var.{Var}
-use Rattle.clc_types.specs.declared.typed.Var.TheVariants as var
 use Rattle.clc_types.specs.declared.typed.TExpr.{TExpr}
 use Rattle.clc_types.specs.declared.typed.TStmt.{TStmt}
 use Rattle.clc_types.specs.declared.typed.TStmt.TheVariants as st
 use Rattle.clc_types.specs.declared.typed.TFunction.{TFunction}
-use Rattle.clc_types.specs.declared.forms.Fault.{Fault}
 use Rattle.clc_types.specs.declared.forms.Shape.{Shape}
 use Rattle.clc_types.specs.declared.forms.Shape.TheVariants as shape
 use Rattle.clc_types.specs.declared.forms.Kind.{Kind}
 use Rattle.clc_types.specs.declared.forms.Kind.TheVariants as k
 use Rattle.clc_types.specs.declared.forms.Form.{Form}
-use Rattle.clc_types.specs.Judged.{Judged, Fine, next, unless, violations, Part, one}
+use Rattle.clc_types.specs.Judged.{next, unless, violations, one}
 use Rattle.clc_types.specs.Words.{value_of, type_of, type_tokens, one_if}
 use Rattle.clc_types.specs.Rules.{is_array as is_array_kind, is_scalar, kind_of, var_of, ty_of, scalar_needed, no_array, fit_needed, return_needs, bare_needs, is_size}
 use Rattle.clc_types.specs.Typing.{judge, judge_assign}
-use Rattle.clc_types.specs.Blocks.{Piece, nothing, quiet, past, ending, seq, made, maybe, listed, opened, looping, declared, size, init, item_piece, item_step_piece, pointer_shape, pointer_tokens, declare_piece, condition, value, maybe_condition, maybe_value, returned, jump, evaluated, for_start_piece, block_part_piece, stmt_piece, block_piece, do_piece, else_piece, for_piece, if_piece, while_piece}
-use Rattle.clc_well_typed.specs.WellTyped.{Seen, is_value, is_number, accepts, value_type, is_condition, maybe_condition as maybe_condition_of, maybe_valid, is_declared, is_returned, all_fit, counts, together, declared as declared_in}
+use Rattle.clc_types.specs.Blocks.{Piece, nothing, quiet, past, ending, seq, made, maybe, listed, opened, looping, declared, size, init, item_piece, item_step_piece, pointer_shape, pointer_tokens, declare_piece, condition, value, maybe_condition, maybe_value, returned, jump, evaluated, for_start_piece}
+use Rattle.clc_well_typed.specs.WellTyped.{is_number, accepts, value_type, is_condition, maybe_condition as maybe_condition_of, maybe_valid, is_declared, is_returned, all_fit, counts, together, declared as declared_in}
 use Rattle.clc_well_typed.proofs.Judging.{fine_is, next_parts, unless_parts, not_violated, yes, yes3, yes4}
-use Rattle.clc_well_typed.proofs.Taken.{Fitting, fit_found, plain_found}
+use Rattle.clc_well_typed.proofs.Taken.{fit_found, plain_found}
 use Rattle.clc_well_typed.proofs.TypedNodes.{S, F, fits_block, fits_declare, fits_eval, fits_empty, fits_if0, fits_if1, fits_while, fits_do, fits_for, fits_break, fits_continue, fits_return, declared_block, declared_declare, declared_eval, declared_empty, declared_if0, declared_if1, declared_while, declared_do, declared_for, declared_break, declared_continue, declared_return}
-use Rattle.clc_well_typed.proofs.Forms.{Sound, Number, number_read}
-use Rattle.clc_well_typed.proofs.Parts.{Ready, Gives, one_gives}
+use Rattle.clc_well_typed.proofs.Forms.{Sound, number_read}
+use Rattle.clc_well_typed.proofs.Parts.{Gives, one_gives}
 use Rattle.clc_well_typed.proofs.Expressions.{expr_valid, assign_part_valid}
 use Rattle.clc_well_typed.proofs.Places.{counts_none, counts_one, counts_append}
-use Rattle.clc_well_typed.proofs.Pieces.{Still, Both, Looped, Numbered, Placed, Stands, nothing_stands, quiet_stands, past_stands, opened_stands, ending_stands, looping_stands, made_stands, seq_stands, declared_stands}
+use Rattle.clc_well_typed.proofs.Pieces.{Still, Both, Looped, Numbered, Stands, nothing_stands, quiet_stands, past_stands, opened_stands, ending_stands, looping_stands, made_stands, seq_stands, declared_stands}
 use Rattle.clc_well_typed.proofs.SourceStatements.{j_block_part, j_stmt, j_block, j_else, part_declare, part_stmt, stmt_block, stmt_eval, stmt_empty, stmt_break, stmt_continue, stmt_return, block_is, else_is, when_is, choose_is, loop_is, until_is, count_is}
 
 pub value_typed : (s : Shape) → value_type (var_of s) ≡ ty_of (kind_of 0 s)
@@ -323,11 +319,10 @@ module _ (vars : List Var) (before : List TFunction) (result : Option Scalar) wh
   for_fits : (l : Bool) (n m : ℕ) (y : List TStmt × (Option TExpr × (Option TExpr × TStmt))) → Heads l n m y → OkStmt l n m (st.For y.0 y.1.0 y.1.1.0 y.1.1.1)
   for_fits l n m y h =
       let body = y.1.1.1 in
-      let e = h.2.1.0 ∙ h.2.2.1.0 in
-      (
+      let e = h.2.1.0 ∙ h.2.2.1.0 in (
         fits_for vars before result y.0 y.1.0 y.1.1.0 body l ∙ yes4 h.1.0 h.2.1.1 h.2.2.1.1 h.2.2.2.0,
         ap (counts n m) (declared_for y.0 y.1.0 y.1.1.0 body)
-        ∙ counts_append n h.0 m (together (map declared_in y.0)) (declared_in body) h.1.1 (subst (λ z. counts z m (declared_in body) ≡ true) (sym e) h.2.2.2.1),
+            ∙ counts_append n h.0 m (together (map declared_in y.0)) (declared_in body) h.1.1 (subst (λ z. counts z m (declared_in body) ≡ true) (sym e) h.2.2.2.1),
       )
 
   evaluated_fits : (l : Bool) (n m : ℕ) (y : Option TExpr) → Still MaybeValued l n m y → OkStmts l n m (evaluated y)
