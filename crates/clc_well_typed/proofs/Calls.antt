@@ -1,5 +1,6 @@
 -- Calls: arguments that parameters accept, and built-in functions.
 use Rattle.std.proofs.Common.{◌≡◌, ℕ, suc, Bool, true, false, not, ◌&&◌, ◌||◌, eqb, List, [], ◌∷◌, ◌++◌, Option, Some, None, take, slice_get, length, refl, sym, ap, ap₂, ◌∙◌, arith, eqb-true}
+use Rattle.std.proofs.lemmas.Bool.{not-false}
 use Rattle.std.specs.Prelude.{map}
 use Rattle.clc_lexer.specs.declared.token.Token.{Token}
 use Rattle.q_lane.specs.declared.kinds.Scalar.{Scalar}
@@ -19,10 +20,10 @@ use Rattle.clc_types.specs.declared.forms.Signature.{Signature}
 use Rattle.clc_types.specs.Judged.{violations}
 use Rattle.clc_types.specs.Rules.{is_array as is_array_kind, same_scalar, matches, kind_of, ty_of, result_kind, call_kind, fits, number, builtin_params, builtin_needs, is_uint, int_or_uint, scalar_of, all_are, some_uint, one_or_common, number_type, work_of, gives}
 use Rattle.clc_types.specs.Typing.{argument, exprs, call_form, builtin_form}
-use Rattle.clc_well_typed.specs.WellTyped.{is_number, same_type, accepts, kind_of_type, value_type, all_values, types, all_accepted, is_call}
+use Rattle.clc_well_typed.specs.WellTyped.{is_number, same_type, accepts, kind_of_type, value_type, all_values, typed_arguments, all_accepted, is_call, seen}
 use Rattle.clc_well_typed.proofs.Judging.{append_none, not_violated, yes, yes3, yes4}
 use Rattle.clc_well_typed.proofs.Taken.{same_self, scalar_same, scalar_kept}
-use Rattle.clc_well_typed.proofs.TypedNodes.{S, seen_call, seen_builtin}
+use Rattle.clc_well_typed.proofs.TypedNodes.{seen_call, seen_builtin}
 use Rattle.clc_well_typed.proofs.Forms.{Reads, as_value, Sound, plain_sound}
 
 -- parameters accept arguments, one each
@@ -139,35 +140,31 @@ number_matched (k.Value s) h = (s, refl)
 number_matched (k.Pointer z c g) h = absurd (cc)
 number_matched (k.Array v g) h = absurd (cc)
 
-not_not : (x : Bool) → not x ≡ false → x ≡ true
-not_not true h = refl
-not_not false h = absurd (cc)
-
 numbers_passed : (ss : List Shape) (xs : List Argument) → AllNumbers ss → length ss ≡ length xs → fits ss xs ≡ [] → Numbers xs
 numbers_passed [] [] a e h = tt
 numbers_passed [] (x ∷ xs) a e h = absurd (omega (arith, e))
 numbers_passed (s ∷ ss) [] a e h = absurd (omega (arith, e))
 numbers_passed (s ∷ ss) (x ∷ xs) a e h =
     let d = append_none (violations x.place ((7, not (matches (kind_of 0 s) x.kind)) ∷ [])) (fits ss xs) h in
-    let m = not_not (matches (kind_of 0 s) x.kind) (not_violated x.place 7 (not (matches (kind_of 0 s) x.kind)) [] d.0).0 in
+    let m = not-false (matches (kind_of 0 s) x.kind) (not_violated x.place 7 (not (matches (kind_of 0 s) x.kind)) [] d.0).0 in
     (number_matched x.kind (ap (λ z. matches (kind_of 0 z) x.kind) (sym a.0) ∙ m), numbers_passed ss xs a.1 (omega (arith, e)) d.1)
 
 module _ (vars : List Var) (before : List TFunction) (result : Option Scalar) where
   pub record ArgumentSound (x : Argument) : Type 0 where
-    pub fine : is_array_kind x.kind ≡ false → Reads x.kind place.Nowhere (S vars before result x.expr)
+    pub fine : is_array_kind x.kind ≡ false → Reads x.kind place.Nowhere (seen vars before result x.expr)
 
   abbrev pub AllSound : List Argument → Type 0
   AllSound [] = Unit {0}
   AllSound (x ∷ xs) = ArgumentSound x × AllSound xs
 
   pub argument_sound : (q : ℕ) (x : Form) → Sound vars before result x → ArgumentSound (argument q x)
-  argument_sound q x h = record { fine = λ p. as_value x.kind x.place (S vars before result x.expr) (h.fine p) }
+  argument_sound q x h = record { fine = λ p. as_value x.kind x.place (seen vars before result x.expr) (h.fine p) }
 
   pub all_last : (xs : List Argument) (x : Argument) → AllSound xs → ArgumentSound x → AllSound (xs ++ x ∷ [])
   all_last [] x h i = (i, tt)
   all_last (y ∷ ys) x h i = (h.0, all_last ys x h.1 i)
 
-  accepted_seen : (vs : List Var) (xs : List Argument) → Accepted vs xs → AllSound xs → all_accepted vs (map (S vars before result) (map (λ x. x.expr) xs)) ≡ true
+  accepted_seen : (vs : List Var) (xs : List Argument) → Accepted vs xs → AllSound xs → all_accepted vs (map (seen vars before result) (map (λ x. x.expr) xs)) ≡ true
   accepted_seen [] [] h i = refl
   accepted_seen [] (x ∷ xs) h i = absurd h
   accepted_seen (v ∷ vs) [] h i = absurd h
@@ -177,27 +174,27 @@ module _ (vars : List Var) (before : List TFunction) (result : Option Scalar) wh
 
   pub call_sound : (t : Token) (f : ℕ) (s : Option Signature) (args : List Argument) → Called before f args (call_kind s) → AllSound args → Sound vars before result (call_form t f s args)
   call_sound t f s args c h =
-      let xs = map (S vars before result) (exprs args) in
+      let xs = map (seen vars before result) (exprs args) in
       plain_sound vars before result t.from (call_kind s) (n.Call f (exprs args)) _ (call_plain s) (seen_call vars before result t.from (call_kind s) f (exprs args))
       (ap (λ z. is_call z xs (ty_of (call_kind s))) c.found
       ∙ yes3 (ap not c.kernel) (accepted_seen (take c.callee.params c.callee.vars) args c.fits h) (ap (λ z. same_type z (ty_of (call_kind s))) c.typed ∙ same_self (ty_of (call_kind s))))
 
   -- ---- built-in functions
 
-  length_seen : (xs : List Argument) → length (map (S vars before result) (map (λ x. x.expr) xs)) ≡ length xs
+  length_seen : (xs : List Argument) → length (map (seen vars before result) (map (λ x. x.expr) xs)) ≡ length xs
   length_seen [] = refl
   length_seen (x ∷ xs) = ap suc (length_seen xs)
 
-  read_number : (x : Argument) → ((s : Scalar) × (x.kind ≡ k.Value s)) → ArgumentSound x → Reads x.kind place.Nowhere (S vars before result x.expr)
+  read_number : (x : Argument) → ((s : Scalar) × (x.kind ≡ k.Value s)) → ArgumentSound x → Reads x.kind place.Nowhere (seen vars before result x.expr)
   read_number x n h = h.fine (ap is_array_kind n.1)
 
-  values_seen : (xs : List Argument) → Numbers xs → AllSound xs → all_values (map (S vars before result) (map (λ x. x.expr) xs)) ≡ true
+  values_seen : (xs : List Argument) → Numbers xs → AllSound xs → all_values (map (seen vars before result) (map (λ x. x.expr) xs)) ≡ true
   values_seen [] h i = refl
   values_seen (x ∷ xs) h i =
       let r = read_number x h.0 i.0 in
       yes (yes r.valid (ap is_number (r.typed ∙ ap ty_of h.0.1))) (values_seen xs h.1 i.1)
 
-  numbers_seen : (xs : List Argument) → Numbers xs → AllSound xs → SameNumbers (types (map (S vars before result) (map (λ x. x.expr) xs))) xs
+  numbers_seen : (xs : List Argument) → Numbers xs → AllSound xs → SameNumbers (typed_arguments (map (seen vars before result) (map (λ x. x.expr) xs))) xs
   numbers_seen [] h i = tt
   numbers_seen (x ∷ xs) h i =
       let r = read_number x h.0 i.0 in
@@ -205,12 +202,12 @@ module _ (vars : List Var) (before : List TFunction) (result : Option Scalar) wh
 
   pub builtin_sound : (t : Token) (p : ℕ) (f : Builtin) (args : List Argument) → builtin_needs p f args ≡ [] → AllSound args → Sound vars before result (builtin_form t f args)
   builtin_sound t p f args e h =
-      let xs = map (S vars before result) (exprs args) in
+      let xs = map (seen vars before result) (exprs args) in
       let d = append_none (violations p ((6, not (eqb (length (builtin_params f)) (length args))) ∷ [])) (fits (builtin_params f) args) e in
-      let c = not_not (eqb (length (builtin_params f)) (length args)) (not_violated p 6 (not (eqb (length (builtin_params f)) (length args))) [] d.0).0 in
+      let c = not-false (eqb (length (builtin_params f)) (length args)) (not_violated p 6 (not (eqb (length (builtin_params f)) (length args))) [] d.0).0 in
       let all = numbers_passed (builtin_params f) args (numbers_taken f) (eqb-true (length (builtin_params f)) (length args) c) d.1 in
       let w = work_of f args in
       let g = k.Value (gives f w) in
       plain_sound vars before result t.from g (n.Builtin f w (exprs args)) _ refl (seen_builtin vars before result t.from g f w (exprs args))
       (yes4 (ap (eqb (length (builtin_params f))) (length_seen args) ∙ c) (values_seen args all h)
-      (ap (same_scalar w) (same_work f (types xs) args (numbers_seen args all h)) ∙ scalar_same w) (same_self (ty.Value (gives f w))))
+      (ap (same_scalar w) (same_work f (typed_arguments xs) args (numbers_seen args all h)) ∙ scalar_same w) (same_self (ty.Value (gives f w))))

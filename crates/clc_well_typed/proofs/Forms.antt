@@ -25,10 +25,10 @@ use Rattle.clc_types.specs.declared.forms.Sofar.{Sofar}
 use Rattle.clc_types.specs.Words.{mark_of, value_of, is_unsigned, is_increment, type_of}
 use Rattle.clc_types.specs.Rules.{is_void, is_array as is_array_kind, is_nowhere, is_constant, is_locked, place_if, var_of, ty_of, int_or_uint, scalar_needed, indexed_needed, pointer_needed, step_needs, index_needs, operands_needed, operator_of, result_of, prefix_kind, common, scalar_of, conditional_needs, assigned_needed, value_needed}
 use Rattle.clc_types.specs.Typing.{expr_of, at_of, plain, number_form, variable_form, paren_form, index_form, deref_form, post_form, step_form, prefix_form, cast_form, first_of_chain, further, chain_form, conditional_form, assign_form}
-use Rattle.clc_well_typed.specs.WellTyped.{Seen, is_number, is_value, is_open, same_type, points_to, kind_of_type, is_prefix, is_operator, is_assignment, takes, assigns, is_variable, is_array_of, combined, chained, seen_value, seen_place}
+use Rattle.clc_well_typed.specs.WellTyped.{Seen, is_number, is_value, is_open, same_type, points_to, kind_of_type, is_prefix, is_operator, is_assignment, takes, assigns, is_variable, is_array_of, combined, chained, seen_value, seen_place, seen}
 use Rattle.clc_well_typed.proofs.Judging.{append_none, not_violated, yes, yes3, yes4, yes6}
 use Rattle.clc_well_typed.proofs.Taken.{same_self, scalar_kept, result_kept, scalar_found, taken, taken_plain, writable, assigned}
-use Rattle.clc_well_typed.proofs.TypedNodes.{S, each, seen_number, seen_name, seen_index, seen_element, seen_deref, seen_prefix, seen_step, seen_cast, seen_paren, seen_chain, seen_cond, seen_assign}
+use Rattle.clc_well_typed.proofs.TypedNodes.{each_seen, seen_number, seen_name, seen_index, seen_element, seen_deref, seen_prefix, seen_step, seen_cast, seen_paren, seen_chain, seen_cond, seen_assign}
 
 -- what is seen of an expression of this kind that is this place
 pub record Reads (t : Kind) (at : Place) (x : Seen) : Type 0 where
@@ -95,14 +95,14 @@ module _ (vars : List Var) (before : List TFunction) (result : Option Scalar) wh
 
   pub record Sound (x : Form) : Type 0 where
     pub cell : Cell x.kind
-    pub fine : is_array_kind x.kind ≡ false → Reads x.kind x.place (S vars before result x.expr)
+    pub fine : is_array_kind x.kind ≡ false → Reads x.kind x.place (seen vars before result x.expr)
 
   -- a number
   pub record Number (x : Form) : Type 0 where
     pub scalar : Scalar
     pub kind : x.kind ≡ k.Value scalar
-    pub reads : Reads x.kind x.place (S vars before result x.expr)
-    pub value : is_value (S vars before result x.expr) ≡ true
+    pub reads : Reads x.kind x.place (seen vars before result x.expr)
+    pub value : is_value (seen vars before result x.expr) ≡ true
 
   pub number_read : (q : ℕ) (x : Form) → scalar_needed q x.kind ≡ [] → Sound x → Number x
   number_read q x e h =
@@ -110,10 +110,10 @@ module _ (vars : List Var) (before : List TFunction) (result : Option Scalar) wh
       let r = h.fine (ap is_array_kind f.1) in
       record { scalar = f.0; kind = f.1; reads = r; value = yes r.valid (ap is_number (r.typed ∙ ap ty_of f.1)) }
 
-  pub plain_sound : (a : ℕ) (t : Kind) (x : Node) (v : Bool) → is_array_kind t ≡ false → S vars before result (expr_of a t x) ≡ seen_value (ty_of t) v → v ≡ true → Sound (plain a t x)
+  pub plain_sound : (a : ℕ) (t : Kind) (x : Node) (v : Bool) → is_array_kind t ≡ false → seen vars before result (expr_of a t x) ≡ seen_value (ty_of t) v → v ≡ true → Sound (plain a t x)
   plain_sound a t x v p h i = record { cell = no_cell t p; fine = λ q. subst (Reads t place.Nowhere) (sym h) (value_reads t v i) }
 
-  place_sound : (a : ℕ) (t : Kind) (at : Place) (x : Node) (p v : Bool) → is_array_kind t ≡ false → S vars before result (expr_of a t x) ≡ seen_place (ty_of t) p v → (at ≡ place.Writable → p ≡ true) → v ≡ true
+  place_sound : (a : ℕ) (t : Kind) (at : Place) (x : Node) (p v : Bool) → is_array_kind t ≡ false → seen vars before result (expr_of a t x) ≡ seen_place (ty_of t) p v → (at ≡ place.Writable → p ≡ true) → v ≡ true
       → Sound (record { expr = expr_of a t x; kind = t; place = at })
   place_sound a t at x p v c h i j = record { cell = no_cell t c; fine = λ q. subst (Reads t at) (sym h) (place_reads t at p v i j) }
 
@@ -133,7 +133,7 @@ module _ (vars : List Var) (before : List TFunction) (result : Option Scalar) wh
     fine = λ p.
         let r = h.fine p in
         subst (Reads x.kind x.place) (sym (seen_paren vars before result t.from x.kind x.expr))
-        (place_reads x.kind x.place (S vars before result x.expr).place ((S vars before result x.expr).valid && same_type (ty_of x.kind) (S vars before result x.expr).ty) r.place (yes r.valid (ap (same_type (ty_of x.kind)) r.typed ∙ same_self (ty_of x.kind))));
+        (place_reads x.kind x.place (seen vars before result x.expr).place ((seen vars before result x.expr).valid && same_type (ty_of x.kind) (seen vars before result x.expr).ty) r.place (yes r.valid (ap (same_type (ty_of x.kind)) r.typed ∙ same_self (ty_of x.kind))));
   }
 
   index_by : (t : Kind) (at : Place) (x : TExpr) (p q : ℕ) (y : Form) → index_needs p (record { expr = x; kind = t; place = at }) q y ≡ [] → Sound (record { expr = x; kind = t; place = at }) → Sound y
@@ -143,7 +143,7 @@ module _ (vars : List Var) (before : List TFunction) (result : Option Scalar) wh
   index_by (k.Pointer z c g) at x p q y e h i =
       let a = h.fine refl in
       let b = number_read q y (append_none (indexed_needed p (k.Pointer z c g)) (scalar_needed q y.kind) e).1 i in
-      place_sound (at_of x) (k.Value g) (place_if (is_locked z c)) (n.Index x y.expr) (is_open (S vars before result x).ty) _ refl (seen_index vars before result (at_of x) (k.Value g) x y.expr)
+      place_sound (at_of x) (k.Value g) (place_if (is_locked z c)) (n.Index x y.expr) (is_open (seen vars before result x).ty) _ refl (seen_index vars before result (at_of x) (k.Value g) x y.expr)
       (λ w. ap is_open a.typed ∙ open_if (is_locked z c) w) (yes3 a.valid (ap (λ u. points_to u (ty.Value g)) a.typed ∙ same_self (ty.Value g)) b.value)
   index_by (k.Array v g) at x p q y e h i =
       let b = number_read q y (append_none (indexed_needed p (k.Array v g)) (scalar_needed q y.kind) e).1 i in
@@ -158,7 +158,7 @@ module _ (vars : List Var) (before : List TFunction) (result : Option Scalar) wh
   deref_by t q (k.Value s) at x e h = absurd (cc)
   deref_by t q (k.Pointer z c g) at x e h =
       let a = h.fine refl in
-      place_sound t.from (k.Value g) (place_if (is_locked z c)) (n.Deref x) (is_open (S vars before result x).ty) _ refl (seen_deref vars before result t.from (k.Value g) x)
+      place_sound t.from (k.Value g) (place_if (is_locked z c)) (n.Deref x) (is_open (seen vars before result x).ty) _ refl (seen_deref vars before result t.from (k.Value g) x)
       (λ w. ap is_open a.typed ∙ open_if (is_locked z c) w) (yes a.valid (ap (λ u. points_to u (ty.Value g)) a.typed ∙ same_self (ty.Value g)))
   deref_by t q (k.Array v g) at x e h = absurd (cc)
 
@@ -181,7 +181,7 @@ module _ (vars : List Var) (before : List TFunction) (result : Option Scalar) wh
   prefix_sound t q x o e h =
       let a = number_read q x e h in
       let u = mark_of t in
-      let d : ty_of (prefix_kind u (kind_of_type (S vars before result x.expr).ty)) ≡ ty_of (prefix_kind u x.kind) =
+      let d : ty_of (prefix_kind u (kind_of_type (seen vars before result x.expr).ty)) ≡ ty_of (prefix_kind u x.kind) =
       ap (λ z. ty_of (prefix_kind u (kind_of_type z))) (a.reads.typed ∙ ap ty_of a.kind) ∙ ap (λ z. ty_of (prefix_kind u z)) (sym a.kind) in
       plain_sound t.from (prefix_kind u x.kind) (n.Prefix u x.expr) _ (prefix_plain u x.kind) (seen_prefix vars before result t.from (prefix_kind u x.kind) u x.expr)
       (yes3 a.value o (ap (same_type (ty_of (prefix_kind u x.kind))) d ∙ same_self (ty_of (prefix_kind u x.kind))))
@@ -216,20 +216,20 @@ module _ (vars : List Var) (before : List TFunction) (result : Option Scalar) wh
 
   pub record SofarSound (a : Sofar) : Type 0 where
     pub cell : Cell a.kind
-    pub fine : is_array_kind a.kind ≡ false → Reads a.kind place.Nowhere (chained (S vars before result a.first) (map (each vars before result) a.rest))
+    pub fine : is_array_kind a.kind ≡ false → Reads a.kind place.Nowhere (chained (seen vars before result a.first) (map (each_seen vars before result) a.rest))
 
   pub first_sound : (x : Form) → Sound x → SofarSound (first_of_chain x)
-  first_sound x h = record { cell = h.cell; fine = λ p. as_value x.kind x.place (S vars before result x.expr) (h.fine p) }
+  first_sound x h = record { cell = h.cell; fine = λ p. as_value x.kind x.place (seen vars before result x.expr) (h.fine p) }
 
   pub further_sound : (o : Mark) (p q : ℕ) (a : Sofar) (y : Form) → is_operator o ≡ true → operands_needed o p a.kind q y.kind ≡ [] → SofarSound a → Sound y → SofarSound (further o a y)
   further_sound o p q a y w e h i =
       let d = taken o p q a.kind y.kind e in
       let r = h.fine d.left in
       let b = i.fine d.right in
-      let so_far = chained (S vars before result a.first) (map (each vars before result) a.rest) in
+      let so_far = chained (seen vars before result a.first) (map (each_seen vars before result) a.rest) in
       let last : Mark × TExpr = (o, y.expr) in
-      let is : chained (S vars before result a.first) (map (each vars before result) (a.rest ++ last ∷ [])) ≡ combined so_far (o, S vars before result y.expr) =
-      ap (chained (S vars before result a.first)) (map_last (each vars before result) a.rest last) ∙ chained_last (S vars before result a.first) (map (each vars before result) a.rest) (o, S vars before result y.expr) in
+      let is : chained (seen vars before result a.first) (map (each_seen vars before result) (a.rest ++ last ∷ [])) ≡ combined so_far (o, seen vars before result y.expr) =
+      ap (chained (seen vars before result a.first)) (map_last (each_seen vars before result) a.rest last) ∙ chained_last (seen vars before result a.first) (map (each_seen vars before result) a.rest) (o, seen vars before result y.expr) in
       let c = taken_plain o a.kind y.kind d.right in
       record {
         cell = no_cell (result_of (operator_of o) a.kind y.kind) c;

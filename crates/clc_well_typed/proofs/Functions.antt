@@ -1,7 +1,7 @@
 -- Each proper function is given a well-typed one.
 use Rattle.std.proofs.Common.{◌≡◌, ℕ, zero, suc, ◌+◌, ◌<◌, ◌≤◌, Bool, true, false, not, ◌&&◌, ◌||◌, eqb, List, [], ◌∷◌, ◌++◌, Option, Some, None, take, slice_get, length, is_some, refl, sym, ap, ◌∙◌, subst, arith, append-nil, append_assoc, eqb-true, eq-eqb, le-leb, inl, inr, ◌⊎◌, true≢false}
 use Rattle.std.specs.Prelude.{map, bytes_eq, if◌then◌else◌}
-use Rattle.std.proofs.lemmas.Bool.{and_parts, cases_lt, eqb-false}
+use Rattle.std.proofs.lemmas.Bool.{and_parts, cases_lt, eqb-false, not-false, or_parts}
 use Rattle.clc_reading.specs.Reading.{Spelling}
 use Rattle.clc_lexer.specs.declared.token.Token.{Token}
 use Rattle.clc_tree.specs.Programs as g
@@ -14,7 +14,8 @@ use Rattle.clc_tree.specs.declared.functions.Function.{Function}
 use Rattle.q_lane.specs.declared.kinds.Scalar.{Scalar}
 use Rattle.clc_types.specs.declared.typed.Builtin.{Builtin}
 use Rattle.clc_types.specs.declared.typed.Var.{Var}
-use Rattle.clc_types.specs.declared.typed.TStmt.{TStmt}
+use Rattle.clc_types.specs.declared.typed.TStmt.{TStmt, out-TStmt, out-roll-TStmt}
+use Rattle.clc_types.specs.declared.typed.TStmt.TheOpen as o
 use Rattle.clc_types.specs.declared.typed.TStmt.TheVariants as st
 use Rattle.clc_types.specs.declared.typed.TFunction.{TFunction}
 use Rattle.clc_types.specs.declared.forms.Shape.{Shape}
@@ -28,8 +29,8 @@ use Rattle.clc_types.specs.Rules.{matches, kind_of, var_of, ty_of, result_kind, 
 use Rattle.clc_types.specs.Names.{or_else, function_of, outermost, builtin_named, builtin_of}
 use Rattle.clc_types.specs.Blocks.{Decl, is_visible, last_visible, Around, nothing, quiet, past, seq, declared, block}
 use Rattle.clc_types.specs.Programs.{in_force, param_shape, param_tokens, param_name, counted, param_piece, further_params, params_piece, shapes_of, result_of, returns_tokens, heading, head, inside, function_piece, signature, Before, home_of, function_at}
-use Rattle.clc_well_typed.specs.WellTyped.{is_array, accepts, counts, together, declared as declared_in, no_arrays, function_fits}
-use Rattle.clc_well_typed.proofs.Judging.{fine_is, next_parts, unless_parts, append_none, not_violated, yes, yes6}
+use Rattle.clc_well_typed.specs.WellTyped.{is_array, accepts, counts, together, declared as declared_in, no_arrays, is_block, function_fits}
+use Rattle.clc_well_typed.proofs.Judging.{fine_is, next_parts, unless_parts, append_none, not_violated, yes, yes7}
 use Rattle.clc_well_typed.proofs.Taken.{fitting}
 use Rattle.clc_well_typed.proofs.TypedNodes.{fits_block, declared_block}
 use Rattle.clc_well_typed.proofs.Calls.{Accepted, Called}
@@ -37,14 +38,6 @@ use Rattle.clc_well_typed.proofs.Parts.{Gives}
 use Rattle.clc_well_typed.proofs.Places.{at_length, length_last}
 use Rattle.clc_well_typed.proofs.Pieces.{variable_of, Still, Both, Numbered, Placed, Stands, quiet_stands, past_stands, ending_stands, made_stands, seq_stands, declared_stands}
 use Rattle.clc_well_typed.proofs.Statements.{value_typed, OkStmts, block_stands}
-
-not_not : (x : Bool) → not x ≡ false → x ≡ true
-not_not true h = refl
-not_not false h = absurd (cc)
-
-or_none : (x y : Bool) → x || y ≡ false → x ≡ false
-or_none true y h = absurd (cc)
-or_none false y h = refl
 
 -- ---- functions by their signatures
 
@@ -87,7 +80,7 @@ arguments_fit [] (x ∷ xs) e h = absurd (omega (arith, e))
 arguments_fit (s ∷ ss) [] e h = absurd (omega (arith, e))
 arguments_fit (s ∷ ss) (x ∷ xs) e h =
     let d = append_none (violations x.place ((7, not (matches (kind_of 0 s) x.kind)) ∷ [])) (fits ss xs) h in
-    let f = fitting (kind_of 0 s) x.kind (not_not (matches (kind_of 0 s) x.kind) (not_violated x.place 7 (not (matches (kind_of 0 s) x.kind)) [] d.0).0) in
+    let f = fitting (kind_of 0 s) x.kind (not-false (matches (kind_of 0 s) x.kind) (not_violated x.place 7 (not (matches (kind_of 0 s) x.kind)) [] d.0).0) in
     (f.right, ap (λ z. accepts z (ty_of x.kind)) (value_typed s) ∙ f.accepts, arguments_fit ss xs (omega (arith, e)) d.1)
 
 -- what is called is no kernel and stands before
@@ -109,8 +102,8 @@ passed p f n s args high h =
     let e6 = not_violated p 6 (not (eqb (length s.params) (length args))) _ d.0 in
     let e8 = not_violated p 8 (s.kernel && not (eqb f n)) _ e6.1 in
     let e9 = not_violated p 9 (eqb f n || high) [] e8.1 in
-    let o = or_none (eqb f n) high e9.0 in
-    record { kernel = no_kernel s.kernel (eqb f n) o e8.0; other = o; count = not_not (eqb (length s.params) (length args)) e6.0; fits = d.1 }
+    let o = (or_parts (eqb f n) high e9.0).0 in
+    record { kernel = no_kernel s.kernel (eqb f n) o e8.0; other = o; count = not-false (eqb (length s.params) (length args)) e6.0; fits = d.1 }
 
 called_by : (s : Signature) (f : TFunction) (before : List TFunction) (i n : ℕ) (args : List Argument) (o : Option Signature) → o ≡ Some s → slice_get before i ≡ Some f → Alike s f → Passed s i n args → Called before i args (call_kind o)
 called_by s f before i n args o e h a q = record {
@@ -396,8 +389,9 @@ typed_valid b done p f body h =
     let begin : k ≡ 0 + k = omega arith in
     let c : counts k (length vars) (declared_in (st.Block body)) ≡ true =
     ap (counts k (length vars)) (declared_block body) ∙ ap (λ z. counts k z ds) (length_variables all) ∙ ap (λ z. counts z (length all) ds) begin ∙ h.1.1.1 in
+    let block : is_block (out-TStmt (st.Block body)) ≡ true = ap (λ z. is_block (out-TStmt z)) (sym (st.rolls-Block body)) ∙ ap is_block (out-roll-TStmt (o.Block body)) in
     record {
-      fits = yes6 (le-leb k 16 h.1.0) (le-leb k (length vars) (counts_le k (length vars) (declared_in (st.Block body)) c)) (ap no_arrays taken ∙ params_plain f.params) (ap not h.0) c (fits_block vars done result body false ∙ h.1.1.0);
+      fits = yes7 (le-leb k 16 h.1.0) (le-leb k (length vars) (counts_le k (length vars) (declared_in (st.Block body)) c)) (ap no_arrays taken ∙ params_plain f.params) (ap not h.0) c block (fits_block vars done result body false ∙ h.1.1.0);
       alike = record { kernel = refl; returned = refl; params = taken };
     }
 

@@ -45,3 +45,6 @@ yes4 x y z w = yes (yes3 x y z) w
 
 pub yes6 : {a b c d i j : Bool} → a ≡ true → b ≡ true → c ≡ true → d ≡ true → i ≡ true → j ≡ true → a && b && c && d && i && j ≡ true
 yes6 x y z w v u = yes (yes (yes4 x y z w) v) u
+
+pub yes7 : {a b c d i j l : Bool} → a ≡ true → b ≡ true → c ≡ true → d ≡ true → i ≡ true → j ≡ true → l ≡ true → a && b && c && d && i && j && l ≡ true
+yes7 x y z w v u t = yes (yes6 x y z w v u) t

@@ -1,7 +1,7 @@
 -- Each proper statement is given a well-typed one.
 use Rattle.std.proofs.Common.{◌≡◌, ℕ, ◌+◌, Bool, true, false, not, List, [], ◌∷◌, ◌++◌, Option, Some, None, length, is_some, refl, sym, ap, ◌∙◌, subst, arith, append-nil, append_assoc, true≢false}
 use Rattle.std.specs.Prelude.{map}
-use Rattle.std.proofs.lemmas.Bool.{and_parts}
+use Rattle.std.proofs.lemmas.Bool.{and_parts, not-false}
 use Rattle.clc_lexer.specs.declared.token.Token.{Token}
 use Rattle.clc_reading.specs.Reading.{Spelling}
 use Rattle.clc_tree.specs.Expressions.{IsExpr}
@@ -31,10 +31,10 @@ use Rattle.clc_types.specs.Words.{value_of, type_of, type_tokens, one_if}
 use Rattle.clc_types.specs.Rules.{is_array as is_array_kind, is_scalar, kind_of, var_of, ty_of, scalar_needed, no_array, fit_needed, return_needs, bare_needs, is_size}
 use Rattle.clc_types.specs.Typing.{judge, judge_assign}
 use Rattle.clc_types.specs.Blocks.{Piece, nothing, quiet, past, ending, seq, made, maybe, listed, opened, looping, declared, size, init, item_piece, item_step_piece, pointer_shape, pointer_tokens, declare_piece, condition, value, maybe_condition, maybe_value, returned, jump, evaluated, for_start_piece}
-use Rattle.clc_well_typed.specs.WellTyped.{is_number, accepts, value_type, is_condition, maybe_condition as maybe_condition_of, maybe_valid, is_declared, is_returned, all_fit, counts, together, declared as declared_in}
+use Rattle.clc_well_typed.specs.WellTyped.{is_number, accepts, value_type, is_condition, maybe_condition as maybe_condition_of, maybe_valid, is_declared, is_returned, all_fit, counts, together, declared as declared_in, seen, stmt_fits}
 use Rattle.clc_well_typed.proofs.Judging.{fine_is, next_parts, unless_parts, not_violated, yes, yes3, yes4}
 use Rattle.clc_well_typed.proofs.Taken.{fit_found, plain_found}
-use Rattle.clc_well_typed.proofs.TypedNodes.{S, F, fits_block, fits_declare, fits_eval, fits_empty, fits_if0, fits_if1, fits_while, fits_do, fits_for, fits_break, fits_continue, fits_return, declared_block, declared_declare, declared_eval, declared_empty, declared_if0, declared_if1, declared_while, declared_do, declared_for, declared_break, declared_continue, declared_return}
+use Rattle.clc_well_typed.proofs.TypedNodes.{fits_block, fits_declare, fits_eval, fits_empty, fits_if0, fits_if1, fits_while, fits_do, fits_for, fits_break, fits_continue, fits_return, declared_block, declared_declare, declared_eval, declared_empty, declared_if0, declared_if1, declared_while, declared_do, declared_for, declared_break, declared_continue, declared_return}
 use Rattle.clc_well_typed.proofs.Forms.{Sound, number_read}
 use Rattle.clc_well_typed.proofs.Parts.{Gives, one_gives}
 use Rattle.clc_well_typed.proofs.Expressions.{expr_valid, assign_part_valid}
@@ -46,10 +46,6 @@ pub value_typed : (s : Shape) → value_type (var_of s) ≡ ty_of (kind_of 0 s)
 value_typed (shape.Value s f) = refl
 value_typed (shape.Pointer z c e f) = refl
 value_typed (shape.Array e n f) = refl
-
-not_not : (x : Bool) → not x ≡ false → x ≡ true
-not_not true h = refl
-not_not false h = absurd (cc)
 
 scalar_kind : (t : Kind) → is_scalar t ≡ true → (s : Scalar) × (t ≡ k.Value s)
 scalar_kind k.Void h = absurd (cc)
@@ -65,10 +61,10 @@ module _ (vars : List Var) (before : List TFunction) (result : Option Scalar) wh
   -- ---- what is given
 
   abbrev pub OkStmt : Bool → ℕ → ℕ → TStmt → Type 0
-  OkStmt l n m y = (F vars before result y l ≡ true) × (counts n m (declared_in y) ≡ true)
+  OkStmt l n m y = (stmt_fits vars before result y l ≡ true) × (counts n m (declared_in y) ≡ true)
 
   abbrev pub OkStmts : Bool → ℕ → ℕ → List TStmt → Type 0
-  OkStmts l n m ys = (all_fit vars before result (map (F vars before result) ys) l ≡ true) × (counts n m (together (map declared_in ys)) ≡ true)
+  OkStmts l n m ys = (all_fit vars before result (map (stmt_fits vars before result) ys) l ≡ true) × (counts n m (together (map declared_in ys)) ≡ true)
 
   abbrev OkMaybe : Bool → ℕ → ℕ → Option TStmt → Type 0
   OkMaybe l n m None = n ≡ m
@@ -78,7 +74,7 @@ module _ (vars : List Var) (before : List TFunction) (result : Option Scalar) wh
   Tested x = is_condition vars before result x ≡ true
 
   abbrev Valued : TExpr → Type 0
-  Valued x = (S vars before result x).valid ≡ true
+  Valued x = (seen vars before result x).valid ≡ true
 
   abbrev MaybeTested : Option TExpr → Type 0
   MaybeTested x = maybe_condition_of vars before result x ≡ true
@@ -89,10 +85,10 @@ module _ (vars : List Var) (before : List TFunction) (result : Option Scalar) wh
   -- an initial value, or none, of a variable of this kind
   abbrev Initial : Kind → Option TExpr → Type 0
   Initial t None = Unit {0}
-  Initial t (Some x) = ((S vars before result x).valid ≡ true) × (accepts (ty_of t) (S vars before result x).ty ≡ true)
+  Initial t (Some x) = ((seen vars before result x).valid ≡ true) × (accepts (ty_of t) (seen vars before result x).ty ≡ true)
 
   abbrev Left : TStmt → Type 0
-  Left y = ((l : Bool) → F vars before result y l ≡ true) × (declared_in y ≡ [])
+  Left y = ((l : Bool) → stmt_fits vars before result y l ≡ true) × (declared_in y ≡ [])
 
   -- ---- lists of statements
 
@@ -102,11 +98,11 @@ module _ (vars : List Var) (before : List TFunction) (result : Option Scalar) wh
   one_stmt : (l : Bool) (n m : ℕ) (y : TStmt) → OkStmt l n m y → OkStmts l n m (y ∷ [])
   one_stmt l n m y h = (yes h.0 refl, ap (counts n m) (append-nil (declared_in y)) ∙ h.1)
 
-  both_fit : (l : Bool) (xs ys : List TStmt) → all_fit vars before result (map (F vars before result) xs) l ≡ true → all_fit vars before result (map (F vars before result) ys) l ≡ true
-      → all_fit vars before result (map (F vars before result) (xs ++ ys)) l ≡ true
+  both_fit : (l : Bool) (xs ys : List TStmt) → all_fit vars before result (map (stmt_fits vars before result) xs) l ≡ true → all_fit vars before result (map (stmt_fits vars before result) ys) l ≡ true
+      → all_fit vars before result (map (stmt_fits vars before result) (xs ++ ys)) l ≡ true
   both_fit l [] ys h i = i
   both_fit l (x ∷ xs) ys h i =
-      let d = and_parts (F vars before result x l) (all_fit vars before result (map (F vars before result) xs) l) h in
+      let d = and_parts (stmt_fits vars before result x l) (all_fit vars before result (map (stmt_fits vars before result) xs) l) h in
       yes d.0 (both_fit l xs ys d.1 i)
 
   both_stmts : (l : Bool) (n m : ℕ) (y : List TStmt × List TStmt) → Both OkStmts OkStmts l n m y → OkStmts l n m (y.0 ++ y.1)
@@ -201,7 +197,7 @@ module _ (vars : List Var) (before : List TFunction) (result : Option Scalar) wh
   size_gives v = record {
     holds = λ c r p x h.
         let u = unless_parts (violations (p + 1) ((11, not (is_size (value_of v))) ∷ [])) tt x h in
-        not_not (is_size (value_of v)) (not_violated (p + 1) 11 (not (is_size (value_of v))) [] u.0).0;
+        not-false (is_size (value_of v)) (not_violated (p + 1) 11 (not (is_size (value_of v))) [] u.0).0;
   }
 
   array_fits : (s : Scalar) (z : ℕ) (f l : Bool) (n m : ℕ) (y : ℕ × Unit {0}) → Both (Numbered vars (shape.Array s z f)) (Still (Sized z)) l n m y → OkStmts l n m (st.Declare y.0 None ∷ [])
@@ -249,7 +245,7 @@ module _ (vars : List Var) (before : List TFunction) (result : Option Scalar) wh
   value_returned : (r : Option Scalar) (p : ℕ) (x : Form) → return_needs r p x.kind ≡ [] → Sound vars before result x → is_returned vars before result r (Some x.expr) ≡ true
   value_returned None p x h s = absurd (cc)
   value_returned (Some z) p x h s =
-      let i = scalar_kind x.kind (not_not (is_scalar x.kind) (not_violated p 13 (not (is_scalar x.kind)) [] h).0) in
+      let i = scalar_kind x.kind (not-false (is_scalar x.kind) (not_violated p 13 (not (is_scalar x.kind)) [] h).0) in
       let r = s.fine (ap is_array_kind i.1) in
       yes r.valid (ap is_number (r.typed ∙ ap ty_of i.1))
 
@@ -271,13 +267,13 @@ module _ (vars : List Var) (before : List TFunction) (result : Option Scalar) wh
             subst Left u.1 (value_left p c.home.result n.0 r.returned u.0 ((expr_valid vars before result v m i).holds c r (p + 1) n.0 n.1));
       }))
 
-  jump_stands : (s : TStmt) → ((l : Bool) → l ≡ true → F vars before result s l ≡ true) → declared_in s ≡ [] → Stands vars before result OkStmt (jump s)
+  jump_stands : (s : TStmt) → ((l : Bool) → l ≡ true → stmt_fits vars before result s l ≡ true) → declared_in s ≡ [] → Stands vars before result OkStmt (jump s)
   jump_stands s f d = record {
     order = λ from upto p. omega arith;
     fine = λ c pl l from upto p done rest e b u y i.
         let j = unless_parts (violations p ((10, not l) ∷ [])) s y i in
         subst (OkStmt l (length done) (length (done ++ []))) j.1
-        (f l (not_not l (not_violated p 10 (not l) [] j.0).0), none_declared (length done) (length (done ++ [])) s (sym (ap length (append-nil done))) d);
+        (f l (not-false l (not_violated p 10 (not l) [] j.0).0), none_declared (length done) (length (done ++ [])) s (sym (ap length (append-nil done))) d);
   }
 
   -- ---- statements of statements

@@ -1,5 +1,6 @@
 -- What the rules' tests let pass, in terms of types.
 use Rattle.std.proofs.Common.{◌≡◌, ℕ, Bool, true, false, not, ◌&&◌, ◌||◌, List, [], ◌∷◌, ◌++◌, refl, ap, ap₂}
+use Rattle.std.proofs.lemmas.Bool.{not-false, or_parts}
 use Rattle.clc_lexer.specs.declared.marks.Mark.{Mark}
 use Rattle.clc_lexer.specs.declared.marks.Mark.TheVariants as m
 use Rattle.q_lane.specs.declared.kinds.Scalar.{Scalar}
@@ -245,10 +246,6 @@ fitting (k.Array v g) (k.Value u) h = absurd (cc)
 fitting (k.Array v g) (k.Pointer y d i) h = absurd (cc)
 fitting (k.Array v g) (k.Array w i) h = absurd (cc)
 
-not_not : (x : Bool) → not x ≡ false → x ≡ true
-not_not true h = refl
-not_not false h = absurd (cc)
-
 -- S3 stands apart from S12 in these tests, and both are needed
 past_void : (x y : Bool) → x ≡ false → not x && not y ≡ false → y ≡ true
 past_void true y e h = absurd (cc)
@@ -287,17 +284,13 @@ target o p a at h =
     let e3 = not_violated p 12 (is_array_kind a || (is_pointer_kind a && not (takes_pointer o))) [] e2.1 in
     record { void = e0.0; place = writable at e1.0 e2.0; array = e3.0 }
 
-or_none : (x y : Bool) → x || y ≡ false → x ≡ false
-or_none true y h = absurd (cc)
-or_none false y h = refl
-
 -- a number, or a pointer that the operator takes
 numbers : (o : Mark) (a b : Kind) → is_void a ≡ false → is_array_kind a || (is_pointer_kind a && not (takes_pointer o)) ≡ false → is_scalar b ≡ true
     → (is_number (ty_of a) || (is_pointer (ty_of a) && takes_pointer o)) && is_number (ty_of b) ≡ true
 numbers o k.Void b v h i = absurd (cc)
 numbers o (k.Array w g) b v h i = absurd (cc)
 numbers o (k.Value s) (k.Value u) v h i = refl
-numbers o (k.Pointer z c g) (k.Value u) v h i = yes (not_not (takes_pointer o) h) refl
+numbers o (k.Pointer z c g) (k.Value u) v h i = yes (not-false (takes_pointer o) h) refl
 numbers o (k.Value s) k.Void v h i = absurd (cc)
 numbers o (k.Value s) (k.Pointer y d j) v h i = absurd (cc)
 numbers o (k.Value s) (k.Array x j) v h i = absurd (cc)
@@ -321,171 +314,171 @@ pub assigned : (o : Mark) (p q : ℕ) (a : Kind) (at : Place) (b : Kind) → ass
 assigned m.ShiftLeftAssign p q a at b h i =
     let t = target m.ShiftLeftAssign p a at h in
     let g = gotten m.ShiftLeftAssign a q b i in
-    record { left = or_none _ _ t.array; right = value_plain b g; place = t.place; assigns = numbers m.ShiftLeftAssign a b t.void t.array g }
+    record { left = (or_parts _ _ t.array).0; right = value_plain b g; place = t.place; assigns = numbers m.ShiftLeftAssign a b t.void t.array g }
 assigned m.ShiftRightAssign p q a at b h i =
     let t = target m.ShiftRightAssign p a at h in
     let g = gotten m.ShiftRightAssign a q b i in
-    record { left = or_none _ _ t.array; right = value_plain b g; place = t.place; assigns = numbers m.ShiftRightAssign a b t.void t.array g }
+    record { left = (or_parts _ _ t.array).0; right = value_plain b g; place = t.place; assigns = numbers m.ShiftRightAssign a b t.void t.array g }
 assigned m.PlusPlus p q a at b h i =
     let t = target m.PlusPlus p a at h in
     let g = gotten m.PlusPlus a q b i in
-    record { left = or_none _ _ t.array; right = value_plain b g; place = t.place; assigns = numbers m.PlusPlus a b t.void t.array g }
+    record { left = (or_parts _ _ t.array).0; right = value_plain b g; place = t.place; assigns = numbers m.PlusPlus a b t.void t.array g }
 assigned m.MinusMinus p q a at b h i =
     let t = target m.MinusMinus p a at h in
     let g = gotten m.MinusMinus a q b i in
-    record { left = or_none _ _ t.array; right = value_plain b g; place = t.place; assigns = numbers m.MinusMinus a b t.void t.array g }
+    record { left = (or_parts _ _ t.array).0; right = value_plain b g; place = t.place; assigns = numbers m.MinusMinus a b t.void t.array g }
 assigned m.ShiftLeft p q a at b h i =
     let t = target m.ShiftLeft p a at h in
     let g = gotten m.ShiftLeft a q b i in
-    record { left = or_none _ _ t.array; right = value_plain b g; place = t.place; assigns = numbers m.ShiftLeft a b t.void t.array g }
+    record { left = (or_parts _ _ t.array).0; right = value_plain b g; place = t.place; assigns = numbers m.ShiftLeft a b t.void t.array g }
 assigned m.ShiftRight p q a at b h i =
     let t = target m.ShiftRight p a at h in
     let g = gotten m.ShiftRight a q b i in
-    record { left = or_none _ _ t.array; right = value_plain b g; place = t.place; assigns = numbers m.ShiftRight a b t.void t.array g }
+    record { left = (or_parts _ _ t.array).0; right = value_plain b g; place = t.place; assigns = numbers m.ShiftRight a b t.void t.array g }
 assigned m.LessEqual p q a at b h i =
     let t = target m.LessEqual p a at h in
     let g = gotten m.LessEqual a q b i in
-    record { left = or_none _ _ t.array; right = value_plain b g; place = t.place; assigns = numbers m.LessEqual a b t.void t.array g }
+    record { left = (or_parts _ _ t.array).0; right = value_plain b g; place = t.place; assigns = numbers m.LessEqual a b t.void t.array g }
 assigned m.GreaterEqual p q a at b h i =
     let t = target m.GreaterEqual p a at h in
     let g = gotten m.GreaterEqual a q b i in
-    record { left = or_none _ _ t.array; right = value_plain b g; place = t.place; assigns = numbers m.GreaterEqual a b t.void t.array g }
+    record { left = (or_parts _ _ t.array).0; right = value_plain b g; place = t.place; assigns = numbers m.GreaterEqual a b t.void t.array g }
 assigned m.EqualEqual p q a at b h i =
     let t = target m.EqualEqual p a at h in
     let g = gotten m.EqualEqual a q b i in
-    record { left = or_none _ _ t.array; right = value_plain b g; place = t.place; assigns = numbers m.EqualEqual a b t.void t.array g }
+    record { left = (or_parts _ _ t.array).0; right = value_plain b g; place = t.place; assigns = numbers m.EqualEqual a b t.void t.array g }
 assigned m.BangEqual p q a at b h i =
     let t = target m.BangEqual p a at h in
     let g = gotten m.BangEqual a q b i in
-    record { left = or_none _ _ t.array; right = value_plain b g; place = t.place; assigns = numbers m.BangEqual a b t.void t.array g }
+    record { left = (or_parts _ _ t.array).0; right = value_plain b g; place = t.place; assigns = numbers m.BangEqual a b t.void t.array g }
 assigned m.AndAnd p q a at b h i =
     let t = target m.AndAnd p a at h in
     let g = gotten m.AndAnd a q b i in
-    record { left = or_none _ _ t.array; right = value_plain b g; place = t.place; assigns = numbers m.AndAnd a b t.void t.array g }
+    record { left = (or_parts _ _ t.array).0; right = value_plain b g; place = t.place; assigns = numbers m.AndAnd a b t.void t.array g }
 assigned m.OrOr p q a at b h i =
     let t = target m.OrOr p a at h in
     let g = gotten m.OrOr a q b i in
-    record { left = or_none _ _ t.array; right = value_plain b g; place = t.place; assigns = numbers m.OrOr a b t.void t.array g }
+    record { left = (or_parts _ _ t.array).0; right = value_plain b g; place = t.place; assigns = numbers m.OrOr a b t.void t.array g }
 assigned m.PlusAssign p q a at b h i =
     let t = target m.PlusAssign p a at h in
     let g = gotten m.PlusAssign a q b i in
-    record { left = or_none _ _ t.array; right = value_plain b g; place = t.place; assigns = numbers m.PlusAssign a b t.void t.array g }
+    record { left = (or_parts _ _ t.array).0; right = value_plain b g; place = t.place; assigns = numbers m.PlusAssign a b t.void t.array g }
 assigned m.MinusAssign p q a at b h i =
     let t = target m.MinusAssign p a at h in
     let g = gotten m.MinusAssign a q b i in
-    record { left = or_none _ _ t.array; right = value_plain b g; place = t.place; assigns = numbers m.MinusAssign a b t.void t.array g }
+    record { left = (or_parts _ _ t.array).0; right = value_plain b g; place = t.place; assigns = numbers m.MinusAssign a b t.void t.array g }
 assigned m.StarAssign p q a at b h i =
     let t = target m.StarAssign p a at h in
     let g = gotten m.StarAssign a q b i in
-    record { left = or_none _ _ t.array; right = value_plain b g; place = t.place; assigns = numbers m.StarAssign a b t.void t.array g }
+    record { left = (or_parts _ _ t.array).0; right = value_plain b g; place = t.place; assigns = numbers m.StarAssign a b t.void t.array g }
 assigned m.SlashAssign p q a at b h i =
     let t = target m.SlashAssign p a at h in
     let g = gotten m.SlashAssign a q b i in
-    record { left = or_none _ _ t.array; right = value_plain b g; place = t.place; assigns = numbers m.SlashAssign a b t.void t.array g }
+    record { left = (or_parts _ _ t.array).0; right = value_plain b g; place = t.place; assigns = numbers m.SlashAssign a b t.void t.array g }
 assigned m.PercentAssign p q a at b h i =
     let t = target m.PercentAssign p a at h in
     let g = gotten m.PercentAssign a q b i in
-    record { left = or_none _ _ t.array; right = value_plain b g; place = t.place; assigns = numbers m.PercentAssign a b t.void t.array g }
+    record { left = (or_parts _ _ t.array).0; right = value_plain b g; place = t.place; assigns = numbers m.PercentAssign a b t.void t.array g }
 assigned m.AndAssign p q a at b h i =
     let t = target m.AndAssign p a at h in
     let g = gotten m.AndAssign a q b i in
-    record { left = or_none _ _ t.array; right = value_plain b g; place = t.place; assigns = numbers m.AndAssign a b t.void t.array g }
+    record { left = (or_parts _ _ t.array).0; right = value_plain b g; place = t.place; assigns = numbers m.AndAssign a b t.void t.array g }
 assigned m.OrAssign p q a at b h i =
     let t = target m.OrAssign p a at h in
     let g = gotten m.OrAssign a q b i in
-    record { left = or_none _ _ t.array; right = value_plain b g; place = t.place; assigns = numbers m.OrAssign a b t.void t.array g }
+    record { left = (or_parts _ _ t.array).0; right = value_plain b g; place = t.place; assigns = numbers m.OrAssign a b t.void t.array g }
 assigned m.XorAssign p q a at b h i =
     let t = target m.XorAssign p a at h in
     let g = gotten m.XorAssign a q b i in
-    record { left = or_none _ _ t.array; right = value_plain b g; place = t.place; assigns = numbers m.XorAssign a b t.void t.array g }
+    record { left = (or_parts _ _ t.array).0; right = value_plain b g; place = t.place; assigns = numbers m.XorAssign a b t.void t.array g }
 assigned m.LeftParen p q a at b h i =
     let t = target m.LeftParen p a at h in
     let g = gotten m.LeftParen a q b i in
-    record { left = or_none _ _ t.array; right = value_plain b g; place = t.place; assigns = numbers m.LeftParen a b t.void t.array g }
+    record { left = (or_parts _ _ t.array).0; right = value_plain b g; place = t.place; assigns = numbers m.LeftParen a b t.void t.array g }
 assigned m.RightParen p q a at b h i =
     let t = target m.RightParen p a at h in
     let g = gotten m.RightParen a q b i in
-    record { left = or_none _ _ t.array; right = value_plain b g; place = t.place; assigns = numbers m.RightParen a b t.void t.array g }
+    record { left = (or_parts _ _ t.array).0; right = value_plain b g; place = t.place; assigns = numbers m.RightParen a b t.void t.array g }
 assigned m.LeftBrace p q a at b h i =
     let t = target m.LeftBrace p a at h in
     let g = gotten m.LeftBrace a q b i in
-    record { left = or_none _ _ t.array; right = value_plain b g; place = t.place; assigns = numbers m.LeftBrace a b t.void t.array g }
+    record { left = (or_parts _ _ t.array).0; right = value_plain b g; place = t.place; assigns = numbers m.LeftBrace a b t.void t.array g }
 assigned m.RightBrace p q a at b h i =
     let t = target m.RightBrace p a at h in
     let g = gotten m.RightBrace a q b i in
-    record { left = or_none _ _ t.array; right = value_plain b g; place = t.place; assigns = numbers m.RightBrace a b t.void t.array g }
+    record { left = (or_parts _ _ t.array).0; right = value_plain b g; place = t.place; assigns = numbers m.RightBrace a b t.void t.array g }
 assigned m.LeftBracket p q a at b h i =
     let t = target m.LeftBracket p a at h in
     let g = gotten m.LeftBracket a q b i in
-    record { left = or_none _ _ t.array; right = value_plain b g; place = t.place; assigns = numbers m.LeftBracket a b t.void t.array g }
+    record { left = (or_parts _ _ t.array).0; right = value_plain b g; place = t.place; assigns = numbers m.LeftBracket a b t.void t.array g }
 assigned m.RightBracket p q a at b h i =
     let t = target m.RightBracket p a at h in
     let g = gotten m.RightBracket a q b i in
-    record { left = or_none _ _ t.array; right = value_plain b g; place = t.place; assigns = numbers m.RightBracket a b t.void t.array g }
+    record { left = (or_parts _ _ t.array).0; right = value_plain b g; place = t.place; assigns = numbers m.RightBracket a b t.void t.array g }
 assigned m.Semicolon p q a at b h i =
     let t = target m.Semicolon p a at h in
     let g = gotten m.Semicolon a q b i in
-    record { left = or_none _ _ t.array; right = value_plain b g; place = t.place; assigns = numbers m.Semicolon a b t.void t.array g }
+    record { left = (or_parts _ _ t.array).0; right = value_plain b g; place = t.place; assigns = numbers m.Semicolon a b t.void t.array g }
 assigned m.Comma p q a at b h i =
     let t = target m.Comma p a at h in
     let g = gotten m.Comma a q b i in
-    record { left = or_none _ _ t.array; right = value_plain b g; place = t.place; assigns = numbers m.Comma a b t.void t.array g }
+    record { left = (or_parts _ _ t.array).0; right = value_plain b g; place = t.place; assigns = numbers m.Comma a b t.void t.array g }
 assigned m.Question p q a at b h i =
     let t = target m.Question p a at h in
     let g = gotten m.Question a q b i in
-    record { left = or_none _ _ t.array; right = value_plain b g; place = t.place; assigns = numbers m.Question a b t.void t.array g }
+    record { left = (or_parts _ _ t.array).0; right = value_plain b g; place = t.place; assigns = numbers m.Question a b t.void t.array g }
 assigned m.Colon p q a at b h i =
     let t = target m.Colon p a at h in
     let g = gotten m.Colon a q b i in
-    record { left = or_none _ _ t.array; right = value_plain b g; place = t.place; assigns = numbers m.Colon a b t.void t.array g }
+    record { left = (or_parts _ _ t.array).0; right = value_plain b g; place = t.place; assigns = numbers m.Colon a b t.void t.array g }
 assigned m.Plus p q a at b h i =
     let t = target m.Plus p a at h in
     let g = gotten m.Plus a q b i in
-    record { left = or_none _ _ t.array; right = value_plain b g; place = t.place; assigns = numbers m.Plus a b t.void t.array g }
+    record { left = (or_parts _ _ t.array).0; right = value_plain b g; place = t.place; assigns = numbers m.Plus a b t.void t.array g }
 assigned m.Minus p q a at b h i =
     let t = target m.Minus p a at h in
     let g = gotten m.Minus a q b i in
-    record { left = or_none _ _ t.array; right = value_plain b g; place = t.place; assigns = numbers m.Minus a b t.void t.array g }
+    record { left = (or_parts _ _ t.array).0; right = value_plain b g; place = t.place; assigns = numbers m.Minus a b t.void t.array g }
 assigned m.Star p q a at b h i =
     let t = target m.Star p a at h in
     let g = gotten m.Star a q b i in
-    record { left = or_none _ _ t.array; right = value_plain b g; place = t.place; assigns = numbers m.Star a b t.void t.array g }
+    record { left = (or_parts _ _ t.array).0; right = value_plain b g; place = t.place; assigns = numbers m.Star a b t.void t.array g }
 assigned m.Slash p q a at b h i =
     let t = target m.Slash p a at h in
     let g = gotten m.Slash a q b i in
-    record { left = or_none _ _ t.array; right = value_plain b g; place = t.place; assigns = numbers m.Slash a b t.void t.array g }
+    record { left = (or_parts _ _ t.array).0; right = value_plain b g; place = t.place; assigns = numbers m.Slash a b t.void t.array g }
 assigned m.Percent p q a at b h i =
     let t = target m.Percent p a at h in
     let g = gotten m.Percent a q b i in
-    record { left = or_none _ _ t.array; right = value_plain b g; place = t.place; assigns = numbers m.Percent a b t.void t.array g }
+    record { left = (or_parts _ _ t.array).0; right = value_plain b g; place = t.place; assigns = numbers m.Percent a b t.void t.array g }
 assigned m.Ampersand p q a at b h i =
     let t = target m.Ampersand p a at h in
     let g = gotten m.Ampersand a q b i in
-    record { left = or_none _ _ t.array; right = value_plain b g; place = t.place; assigns = numbers m.Ampersand a b t.void t.array g }
+    record { left = (or_parts _ _ t.array).0; right = value_plain b g; place = t.place; assigns = numbers m.Ampersand a b t.void t.array g }
 assigned m.Bar p q a at b h i =
     let t = target m.Bar p a at h in
     let g = gotten m.Bar a q b i in
-    record { left = or_none _ _ t.array; right = value_plain b g; place = t.place; assigns = numbers m.Bar a b t.void t.array g }
+    record { left = (or_parts _ _ t.array).0; right = value_plain b g; place = t.place; assigns = numbers m.Bar a b t.void t.array g }
 assigned m.Caret p q a at b h i =
     let t = target m.Caret p a at h in
     let g = gotten m.Caret a q b i in
-    record { left = or_none _ _ t.array; right = value_plain b g; place = t.place; assigns = numbers m.Caret a b t.void t.array g }
+    record { left = (or_parts _ _ t.array).0; right = value_plain b g; place = t.place; assigns = numbers m.Caret a b t.void t.array g }
 assigned m.Tilde p q a at b h i =
     let t = target m.Tilde p a at h in
     let g = gotten m.Tilde a q b i in
-    record { left = or_none _ _ t.array; right = value_plain b g; place = t.place; assigns = numbers m.Tilde a b t.void t.array g }
+    record { left = (or_parts _ _ t.array).0; right = value_plain b g; place = t.place; assigns = numbers m.Tilde a b t.void t.array g }
 assigned m.Bang p q a at b h i =
     let t = target m.Bang p a at h in
     let g = gotten m.Bang a q b i in
-    record { left = or_none _ _ t.array; right = value_plain b g; place = t.place; assigns = numbers m.Bang a b t.void t.array g }
+    record { left = (or_parts _ _ t.array).0; right = value_plain b g; place = t.place; assigns = numbers m.Bang a b t.void t.array g }
 assigned m.Less p q a at b h i =
     let t = target m.Less p a at h in
     let g = gotten m.Less a q b i in
-    record { left = or_none _ _ t.array; right = value_plain b g; place = t.place; assigns = numbers m.Less a b t.void t.array g }
+    record { left = (or_parts _ _ t.array).0; right = value_plain b g; place = t.place; assigns = numbers m.Less a b t.void t.array g }
 assigned m.Greater p q a at b h i =
     let t = target m.Greater p a at h in
     let g = gotten m.Greater a q b i in
-    record { left = or_none _ _ t.array; right = value_plain b g; place = t.place; assigns = numbers m.Greater a b t.void t.array g }
+    record { left = (or_parts _ _ t.array).0; right = value_plain b g; place = t.place; assigns = numbers m.Greater a b t.void t.array g }
 assigned m.Assign p q a at b h i =
     let t = target m.Assign p a at h in
     let f = fitting a b (gotten m.Assign a q b i) in

@@ -18,7 +18,7 @@ use Rattle.clc_types.specs.declared.typed.Node.TheOpen.{Node-F}
 use Rattle.clc_types.specs.declared.typed.Node.TheFolds.{fold-TExpr}
 use Rattle.clc_types.specs.declared.typed.Node.TheVariants as n
 use Rattle.clc_types.specs.declared.typed.TExpr.{TExpr, roll-TExpr}
-use Rattle.clc_types.specs.declared.typed.TStmt.{TStmt}
+use Rattle.clc_types.specs.declared.typed.TStmt.{TStmt, out-TStmt}
 use Rattle.clc_types.specs.declared.typed.TStmt.TheOpen as s
 use Rattle.clc_types.specs.declared.typed.TStmt.TheOpen.{TStmt-F}
 use Rattle.clc_types.specs.declared.typed.TStmt.TheFolds.{fold-TStmt}
@@ -137,6 +137,7 @@ pub record Seen : Type 0 where
   pub place : Bool
   pub valid : Bool
 
+-- a well-typed number
 abbrev pub is_value : Seen → Bool
 is_value x = x.valid && is_number x.ty
 
@@ -144,8 +145,8 @@ abbrev pub all_values : List Seen → Bool
 all_values [] = true
 all_values (x ∷ xs) = is_value x && all_values xs
 
-abbrev pub types : List Seen → List Argument
-types xs = map (λ x. argument_of x.ty) xs
+abbrev pub typed_arguments : List Seen → List Argument
+typed_arguments xs = map (λ x. argument_of x.ty) xs
 
 -- a part of a chain, with one operator and one operand more
 abbrev pub combined : Seen → Mark × Seen → Seen
@@ -194,7 +195,7 @@ module _ (vars : List Var) (before : List TFunction) (result : Option Scalar) wh
   node_seen (e.Cond a b d) t = seen_value t (is_value a && is_value b && is_value d && same_type t (ty.Value (common (scalar_of (kind_of_type b.ty)) (scalar_of (kind_of_type d.ty)))))
   node_seen (e.Assign a o b) t = seen_value t (a.valid && a.place && b.valid && is_assignment o && assigns o a.ty b.ty && same_type t a.ty)
   node_seen (e.Call f xs) t = seen_value t (is_call (slice_get before f) xs t)
-  node_seen (e.Builtin f w xs) t = seen_value t (eqb (length (builtin_params f)) (length xs) && all_values xs && same_scalar w (work_of f (types xs)) && same_type t (ty.Value (gives f w)))
+  node_seen (e.Builtin f w xs) t = seen_value t (eqb (length (builtin_params f)) (length xs) && all_values xs && same_scalar w (work_of f (typed_arguments xs)) && same_type t (ty.Value (gives f w)))
 
   abbrev pub seen : TExpr → Seen
   seen = fold-TExpr (Ty → Seen) Seen node_seen (λ x. x.node x.ty)
@@ -285,11 +286,15 @@ abbrev pub no_arrays : List Var → Bool
 no_arrays [] = true
 no_arrays (v ∷ vs) = not (is_array v) && no_arrays vs
 
--- at most 16 parameters, none an array; every other variable is declared once, in order; a kernel returns nothing
+abbrev pub is_block : TStmt-F TStmt → Bool
+is_block (s.Block xs) = true
+is_block _ = false
+
+-- at most 16 parameters, none an array; every other variable is declared once, in order; a kernel returns nothing; the body is a block
 abbrev pub function_fits : List TFunction → TFunction → Bool
 function_fits before f =
     nat_le f.params 16 && nat_le f.params (length f.vars) && no_arrays (take f.params f.vars) && not (f.kernel && is_some f.result)
-    && counts f.params (length f.vars) (declared f.body) && stmt_fits f.vars before f.result f.body false
+    && counts f.params (length f.vars) (declared f.body) && is_block (out-TStmt f.body) && stmt_fits f.vars before f.result f.body false
 
 -- functions after others. Each may call those before it alone
 abbrev pub functions_fit : List TFunction → List TFunction → Bool
