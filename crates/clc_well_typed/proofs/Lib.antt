@@ -1,0 +1,14 @@
+pub mod Judging
+pub mod Taken
+pub mod SourceExpressions
+pub mod SourceStatements
+pub mod TypedNodes
+pub mod Forms
+pub mod Calls
+pub mod Parts
+pub mod Expressions
+pub mod Places
+pub mod Pieces
+pub mod Statements
+pub mod Functions
+pub mod Programs
