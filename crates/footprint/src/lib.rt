@@ -7,4 +7,4 @@ mod marks;
 
 pub use conflicts::conflict;
 pub use laws::law_conflicts;
-pub use marks::{Footprint, Memory};
+pub use marks::{Footprint, Mark, Memory, Use};

@@ -1,0 +1,3 @@
+pub mod LaunchMeaning
+pub mod Laws
+pub mod Small

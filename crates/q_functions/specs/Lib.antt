@@ -1,0 +1,3 @@
+pub mod NumberFunctions
+pub mod WorkFunctions
+pub mod Laws

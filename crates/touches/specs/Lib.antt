@@ -1,0 +1,3 @@
+pub mod Touched
+pub mod Tells
+pub mod First
