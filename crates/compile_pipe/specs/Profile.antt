@@ -13,7 +13,6 @@ use Rattle.clc_types.specs.declared.typed.TStmt.{TStmt, out-TStmt}
 use Rattle.clc_types.specs.declared.typed.TStmt.TheOpen as s
 use Rattle.clc_types.specs.declared.typed.TStmt.TheOpen.{TStmt-F}
 use Rattle.clc_types.specs.declared.typed.TFunction.{TFunction}
-use Rattle.clc_types.specs.declared.typed.Typed.{Typed}
 use Rattle.clc_types.specs.Judged.{Fine, Faulty, IsLeast}
 use Rattle.clc_types.specs.Programs.{program, kernel_of}
 use Rattle.promise.specs.declared.refusal.SourceRule.{SourceRule}
@@ -57,18 +56,18 @@ pub record IsProgram (source : List ℕ) (tokens : List Token) (tree : Tree) : T
   pub spelled : IsSpelled source tokens
   pub text : IsText 65 tree tokens
 
--- the program violates no typing rule, and this is its typed tree
-pub record IsTyped (source : List ℕ) (typed : Typed) : Type 0 where
+-- the program violates no typing rule, and these are the functions of its typed tree
+pub record IsTyped (source : List ℕ) (functions : List TFunction) : Type 0 where
   pub tokens : List Token
   pub tree : Tree
   pub is_program : IsProgram source tokens tree
-  pub fine : program tree ≡ Fine typed
+  pub fine : program tree ≡ Fine functions
 
 -- the kernel of that name is this function
-pub record IsWanted (typed : Typed) (kernel : List ℕ) (function : TFunction) : Type 0 where
+pub record IsWanted (functions : List TFunction) (kernel : List ℕ) (function : TFunction) : Type 0 where
   pub number : ℕ
-  pub named : kernel_of 0 typed.functions kernel ≡ Some number
-  pub there : slice_get typed.functions number ≡ Some function
+  pub named : kernel_of 0 functions kernel ≡ Some number
+  pub there : slice_get functions number ≡ Some function
 
 -- ---- the forms of kernels that are built so far
 
@@ -83,10 +82,10 @@ is_built f = eqb f.params 0 && is_empty_block (out-TStmt f.body)
 -- ---- the profile
 
 pub record IsInProfile (source kernel : List ℕ) : Type 0 where
-  pub typed : Typed
+  pub functions : List TFunction
   pub function : TFunction
-  pub is_typed : IsTyped source typed
-  pub wanted : IsWanted typed kernel function
+  pub is_typed : IsTyped source functions
+  pub wanted : IsWanted functions kernel function
   pub built : is_built function ≡ true
 
 -- The first violated rule and its offset. Rules on bytes come first, then those of the grammar, the typing rules, the name of the kernel and its form;
@@ -97,6 +96,6 @@ pub data IsFirstViolation (source kernel : List ℕ) : SourceRule → ℕ → Ty
       → IsFirstViolation source kernel (grammar_rule reason) (place_of source tokens k)
   typing : (tokens : List Token) (tree : Tree) (one : Fault) (more : List Fault) (first : Fault) → IsProgram source tokens tree
       → program tree ≡ Faulty one more → IsLeast first (one ∷ more) → IsFirstViolation source kernel (typing_rule first.rule) (place_of source tokens first.token)
-  no_kernel : (typed : Typed) → IsTyped source typed → kernel_of 0 typed.functions kernel ≡ None → IsFirstViolation source kernel K1 0
-  unbuilt : (typed : Typed) (function : TFunction) → IsTyped source typed → IsWanted typed kernel function → is_built function ≡ false
+  no_kernel : (functions : List TFunction) → IsTyped source functions → kernel_of 0 functions kernel ≡ None → IsFirstViolation source kernel K1 0
+  unbuilt : (functions : List TFunction) (function : TFunction) → IsTyped source functions → IsWanted functions kernel function → is_built function ≡ false
       → IsFirstViolation source kernel N0 function.at

@@ -26,9 +26,9 @@ fn is_built(function: &TFunction) -> bool
 /// Whether the wanted kernel of a source is there and its form is built.
 fn allow(typed: &Typed, kernel: &[u8]) -> Result<(), Refusal>
     requires { length typed.now.functions < 2 ^ 32 }
-    ensures ok { OnOk result ((source : List ℕ) → IsTyped source typed.now → IsInProfile source kernel.now) }
+    ensures ok { OnOk result ((source : List ℕ) → IsTyped source typed.now.functions → IsInProfile source kernel.now) }
     ensures err { (rule : AnyRule) (at : ℕ) → result ≡ Err (Refusal.Rule rule at)
-        → (source : List ℕ) → IsTyped source typed.now → IsFirstViolation source kernel.now rule at }
+        → (source : List ℕ) → IsTyped source typed.now.functions → IsFirstViolation source kernel.now rule at }
 {
     let Some(number) = kernel_number(typed, kernel) else {
         return Err(Refusal::Rule {
