@@ -5,7 +5,7 @@ use Rattle.std.proofs.lemmas.Option.{slice_get_within}
 use Rattle.clc_types.specs.declared.typed.Ty.{Ty}
 use Rattle.clc_types.specs.declared.typed.Var.{Var}
 use Rattle.clc_types.specs.declared.typed.TFunction.{TFunction}
-use Rattle.clc_well_typed.specs.WellTyped.{Seen, is_variable, is_array_of, is_call, function_fits, functions_fit, is_well_typed}
+use Rattle.clc_types.specs.WellTyped.{Seen, is_variable, is_array_of, is_call, function_fits, functions_fit, is_well_typed}
 
 found_first : (a b : TFunction) (fs : List TFunction) → Some a ≡ Some b → function_fits fs a ≡ true → function_fits fs b ≡ true
 found_first a b fs h i = let same : a ≡ b = cc in subst (λ z. function_fits fs z ≡ true) same i
