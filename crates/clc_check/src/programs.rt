@@ -2,7 +2,9 @@
 
 ghost use Rattle.std.specs.Prelude.{◌≡◌, ◌<◌, ◌^◌, length};
 ghost use Rattle.clc_tree.specs.Flat.{flat_of};
+ghost use Rattle.clc_tree.specs.SourceText.{IsProper};
 ghost use Rattle.clc_types.specs.Programs.{program, Judges, kernel_of};
+ghost use Rattle.clc_check.specs.Checked.{functions_in};
 
 use clc_tree::Tree;
 use clc_types::{Home, Scope, State, TypeFault, Typed};
@@ -13,8 +15,9 @@ use std::alloc::Global;
 
 /// The typed tree of a program, or the first rule that it violates with the number of the token there.
 pub fn check(alloc: Global, tree: &Tree) -> Result<Typed, TypeFault>
-    requires { length (flat_of tree.now) < 2 ^ 32 }
-    ensures { Judges (program tree.now) result }
+    requires proper { IsProper tree.now }
+    requires fits { length (flat_of tree.now) < 2 ^ 32 }
+    ensures { Judges (program tree.now) (functions_in result) }
 {
     let home = Home {
         functions: Items::new(alloc),

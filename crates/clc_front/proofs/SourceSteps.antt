@@ -13,6 +13,7 @@ use Rattle.clc_tree.specs.Flat.{joined, optional_tokens, returns_tokens, params_
 use Rattle.clc_types.specs.declared.forms.Fault.{Fault}
 use Rattle.clc_types.specs.declared.typed.TFunction.{TFunction}
 use Rattle.clc_types.specs.declared.typed.Typed.{Typed}
+use Rattle.clc_check.specs.Checked.{functions_in}
 use Rattle.clc_types.specs.declared.typed.TypeFault.TheVariants.{Rule}
 use Rattle.clc_types.specs.Judged.{Judged, Fine, Faulty, both, next, IsLeast}
 use Rattle.clc_types.specs.Programs.{program, kernel_of, Judges, Before, function_at, functions_at, function_piece, with_function, no_function}
@@ -74,15 +75,11 @@ as_many before p (f ∷ more) gs e =
     one_longer (function_at before p f) (functions_at (with_function before p f) (p + (function_piece before.names f).tokens) more) (length more) gs
     (λ hs is. as_many (with_function before p f) (p + (function_piece before.names f).tokens) more hs is) e
 
-functions_fine : (j : Judged (List TFunction)) (typed : Typed) → next j (λ fs. Fine (record { functions = fs })) ≡ Fine typed → j ≡ Fine typed.functions
-functions_fine (Fine fs) typed e = let is : typed ≡ record { functions = fs } = cc in sym (ap (λ t. Fine t.functions) is)
-functions_fine (Faulty f fs) typed e = absurd cc
-
-pub few_typed : (source : List ℕ) (ts : List Token) (tree : Tree) (typed : Typed) → IsSpelled source ts → flat_of tree ≡ ts → program tree ≡ Fine typed
-    → length typed.functions < 2 ^ 32
-few_typed source ts tree typed h flat fine =
+pub few_typed : (source : List ℕ) (ts : List Token) (tree : Tree) (functions : List TFunction) → IsSpelled source ts → flat_of tree ≡ ts → program tree ≡ Fine functions
+    → length functions < 2 ^ 32
+few_typed source ts tree functions h flat fine =
     let few = few_tokens source ts h in
-    let same = as_many no_function 0 tree.functions typed.functions (functions_fine (functions_at no_function 0 tree.functions) typed fine) in
+    let same = as_many no_function 0 tree.functions functions fine in
     let more = few_functions tree.functions in
     let all = ap length flat in
     omega (arith, few, same, more, all)
@@ -106,14 +103,14 @@ rule_past (rule ∷ rules) (suc k) last past = rule_past rules k last (omega (ar
 
 -- ---- what was checked
 
-pub checked_fine : (j : Judged Typed) (typed : Typed) → Judges j (Ok typed) → j ≡ Fine typed
+pub checked_fine : (j : Judged (List TFunction)) (typed : Typed) → Judges j (functions_in (Ok typed)) → j ≡ Fine typed.functions
 checked_fine (Fine a) typed h = ap Fine h
 checked_fine (Faulty f fs) typed h = absurd h
 
-abbrev pub HasLeast : Judged Typed → Fault → Type 0
+abbrev pub HasLeast : Judged (List TFunction) → Fault → Type 0
 HasLeast j first = (one : Fault) × (more : List Fault) × (j ≡ Faulty one more) × IsLeast first (one ∷ more)
 
-pub checked_faulty : (j : Judged Typed) (rule token : ℕ) → Judges j (Err (Rule rule token)) → HasLeast j (record { token = token; rule = rule })
+pub checked_faulty : (j : Judged (List TFunction)) (rule token : ℕ) → Judges j (functions_in (Err (Rule rule token))) → HasLeast j (record { token = token; rule = rule })
 checked_faulty (Fine a) rule token h = absurd h
 checked_faulty (Faulty f fs) rule token h = (f, fs, refl, h)
 
@@ -153,8 +150,8 @@ kernel_within fs x k e =
     let less = at.4 in
     omega (arith, same, less)
 
-pub wanted : (typed : Typed) (x : List ℕ) (k : ℕ) (f : TFunction) → kernel_of 0 typed.functions x ≡ Some k → f ≡ get_or typed.functions k f → IsWanted typed x f
-wanted typed x k f e is = record { number = k; named = e; there = kernel_there typed.functions x k f e is }
+pub wanted : (functions : List TFunction) (x : List ℕ) (k : ℕ) (f : TFunction) → kernel_of 0 functions x ≡ Some k → f ≡ get_or functions k f → IsWanted functions x f
+wanted functions x k f e is = record { number = k; named = e; there = kernel_there functions x k f e is }
 
 pub wanted_at : (source x : List ℕ) (typed : Typed) (k : ℕ) (f : TFunction) → HasKernel source x typed k → f ≡ get_or typed.functions k f → IsWanted typed x f
 wanted_at source x typed k f h is = wanted typed x k f h.named is

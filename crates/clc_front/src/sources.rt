@@ -106,7 +106,7 @@ fn program_of(alloc: Global, source: &[u8], tokens: &[Token]) -> Result<Tree, Re
 fn typed_of(alloc: Global, source: &[u8], tokens: &[Token], tree: &Tree) -> Result<Typed, Refusal>
     requires program { IsProgram source.now tokens.now tree.now }
     requires flat { flat_of tree.now ≡ tokens.now }
-    ensures ok { IfOk result (λ typed. program tree.now ≡ Fine typed) }
+    ensures ok { IfOk result (λ typed. program tree.now ≡ Fine typed.functions) }
     ensures few { IfOk result (λ typed. length typed.functions < 2 ^ 32) }
     ensures err { (kernel : List ℕ) (rule : AnyRule) (at : ℕ) → result ≡ Err (Refusal.Rule rule at) → IsFirstViolation source.now kernel rule at }
 {
@@ -122,7 +122,7 @@ fn typed_of(alloc: Global, source: &[u8], tokens: &[Token], tree: &Tree) -> Resu
 
 /// The typed tree of a source, or the first rule that it violates whatever kernel is wanted.
 pub fn typed_tree(alloc: Global, source: &[u8]) -> Result<Typed, Refusal>
-    ensures ok { IfOk result (λ typed. IsTyped source.now typed) }
+    ensures ok { IfOk result (λ typed. IsTyped source.now typed.functions) }
     ensures few { IfOk result (λ typed. length typed.functions < 2 ^ 32) }
     ensures err { (kernel : List ℕ) (rule : AnyRule) (at : ℕ) → result ≡ Err (Refusal.Rule rule at) → IsFirstViolation source.now kernel rule at }
 {

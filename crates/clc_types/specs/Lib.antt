@@ -11,3 +11,4 @@ pub mod Walk
 pub mod Answers
 pub mod Steps
 pub mod Walks
+pub mod WellTyped

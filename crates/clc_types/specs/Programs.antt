@@ -14,7 +14,6 @@ use Rattle.q_lane.specs.declared.kinds.Scalar.{Scalar}
 use Rattle.clc_types.specs.declared.typed.TStmt.{TStmt}
 use Rattle.clc_types.specs.declared.typed.TStmt.TheVariants as st
 use Rattle.clc_types.specs.declared.typed.TFunction.{TFunction}
-use Rattle.clc_types.specs.declared.typed.Typed.{Typed}
 use Rattle.clc_types.specs.declared.typed.TypeFault.{TypeFault}
 use Rattle.clc_types.specs.declared.typed.TypeFault.TheVariants.{Rule, Memory}
 use Rattle.clc_types.specs.declared.forms.Shape.{Shape}
@@ -146,8 +145,8 @@ no_function = record { names = []; signatures = []; heights = [] }
 
 -- ---- programs
 
-abbrev pub program : Tree → Judged Typed
-program tree = next (functions_at no_function 0 tree.functions) (λ fs. Fine (record { functions = fs }))
+abbrev pub program : Tree → Judged (List TFunction)
+program tree = functions_at no_function 0 tree.functions
 
 -- ---- kernels
 

@@ -1,7 +1,8 @@
 //! A typed tree: each name is replaced by what it stands for, and each expression has its type.
 
-ghost use Rattle.std.specs.Prelude.{◌≡◌};
+ghost use Rattle.std.specs.Prelude.{◌≡◌, true};
 ghost use Rattle.clc_types.specs.Names.{spelling as spelling_of, builtin_of};
+ghost use Rattle.clc_types.specs.WellTyped.{is_well_typed};
 
 use clc_lexer::{Mark, Text};
 use q_lane::Scalar;
@@ -229,10 +230,12 @@ pub struct TFunction {
     pub body: TStmt,
 }
 
-/// A program that violates no typing rule. Calls name functions by their number in the list.
+/// A well-typed program: each expression has the type that its operands give it, and each number names what its place
+/// takes. Calls name functions by their number in the list.
 #[derive(Drop)]
 pub struct Typed {
     pub functions: Items<TFunction>,
+    pub ghost well_typed: { is_well_typed functions ≡ true },
 }
 
 /// Why a program has no typed tree.

@@ -6,7 +6,6 @@ use Rattle.clc_tree.specs.declared.functions.Function.{Function}
 use Rattle.clc_tree.specs.declared.functions.Tree.{Tree}
 use Rattle.clc_tree.specs.Flat.{joined, optional_tokens, returns_tokens as returns_text, params_tokens, block_tokens, function_tokens, flat_of}
 use Rattle.clc_types.specs.declared.typed.TFunction.{TFunction}
-use Rattle.clc_types.specs.declared.typed.Typed.{Typed}
 use Rattle.clc_types.specs.declared.typed.TypeFault.{TypeFault}
 use Rattle.clc_types.specs.declared.typed.TypeFault.TheVariants.{Rule, Memory}
 use Rattle.clc_types.specs.declared.scope.State.{State}
@@ -94,16 +93,12 @@ functions_met (f ∷ fs) before p v done r fit =
 abbrev pub start : View
 start = record { outer = []; inner = []; home = record { functions = []; heights = []; result = Rattle.std.specs.Prelude.None }; vars = []; at = 0 }
 
-abbrev pub typed_in : Result (List TFunction) TypeFault → Result Typed TypeFault
-typed_in (Ok fs) = Ok (record { functions = fs })
-typed_in (Err f) = Err f
-
 ready : Ready no_function 0 start
 ready = record { outer = refl; names = λ x. refl; functions = refl; heights = refl; counts = refl; few = omega arith; at = refl }
 
 judged : (j : Judged (List TFunction)) (w : Stepped (List TFunction)) (r : Result (List TFunction) TypeFault) (new : State) → Met (next j (λ ys. Fine ([] ++ ys))) w (λ u. Unit {0}) → Stands w r new
-    → Judges (next j (λ fs. Fine (let t : Typed = record { functions = fs } in t))) (typed_in r)
-judged (Fine a) (Goes b v) (Ok x) new h i = ap (λ fs. let t : Typed = record { functions = fs } in t) (h.0 ∙ i.0)
+    → Judges j r
+judged (Fine a) (Goes b v) (Ok x) new h i = h.0 ∙ i.0
 judged (Fine a) (Goes b v) (Err Memory) new h i = tt
 judged (Fine a) (Goes b v) (Err (Rule r t)) new h i = absurd i
 judged (Fine a) (Stops g) r new h i = absurd h
@@ -112,7 +107,7 @@ judged (Faulty f fs) (Stops g) (Ok x) new h i = absurd i
 judged (Faulty f fs) (Stops g) (Err Memory) new h i = tt
 judged (Faulty f fs) (Stops g) (Err (Rule r t)) new h i = subst (λ z. IsLeast z (f ∷ fs)) i h
 
-pub judges : (tree : Tree) (r : Result (List TFunction) TypeFault) (new : State) → length (flat_of tree) < 2 ^ 32 → Stands (functions_walk [] start tree.functions) r new → Judges (program tree) (typed_in r)
+pub judges : (tree : Tree) (r : Result (List TFunction) TypeFault) (new : State) → length (flat_of tree) < 2 ^ 32 → Stands (functions_walk [] start tree.functions) r new → Judges (program tree) r
 judges tree r new fit h =
     let n = program_length tree.functions in
     judged (functions_at no_function 0 tree.functions) (functions_walk [] start tree.functions) r new (functions_met tree.functions no_function 0 start [] ready (omega (arith, n, fit))) h

@@ -20,7 +20,7 @@ use Rattle.clc_types.specs.declared.forms.Signature.{Signature}
 use Rattle.clc_types.specs.Judged.{violations}
 use Rattle.clc_types.specs.Rules.{is_array as is_array_kind, same_scalar, matches, kind_of, ty_of, result_kind, call_kind, fits, number, builtin_params, builtin_needs, is_uint, int_or_uint, scalar_of, all_are, some_uint, one_or_common, number_type, work_of, gives}
 use Rattle.clc_types.specs.Typing.{argument, exprs, call_form, builtin_form}
-use Rattle.clc_well_typed.specs.WellTyped.{is_number, same_type, accepts, kind_of_type, value_type, all_values, typed_arguments, all_accepted, is_call, seen}
+use Rattle.clc_types.specs.WellTyped.{is_number, same_type, accepts, kind_of_type, value_type, all_values, typed_arguments, all_accepted, is_call, seen}
 use Rattle.clc_well_typed.proofs.Judging.{append_none, not_violated, yes, yes3, yes4}
 use Rattle.clc_well_typed.proofs.Taken.{same_self, scalar_same, scalar_kept}
 use Rattle.clc_well_typed.proofs.TypedNodes.{seen_call, seen_builtin}

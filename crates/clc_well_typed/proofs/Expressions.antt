@@ -24,7 +24,7 @@ use Rattle.clc_types.specs.declared.typed.Var.{Var}
 use Rattle.clc_types.specs.declared.typed.TFunction.{TFunction}
 use Rattle.clc_types.specs.Words.{mark_in, mark_of}
 use Rattle.clc_types.specs.Typing.{judge, judge_assign}
-use Rattle.clc_well_typed.specs.WellTyped.{is_comma, is_operator, is_assignment}
+use Rattle.clc_types.specs.WellTyped.{is_comma, is_operator, is_assignment}
 use Rattle.clc_well_typed.proofs.Parts.{Valid, name_valid, number_valid, step_valid, prefix_valid, cast_valid, paren_valid, assign_valid, ChoicesValid, conditional_valid, OperandValid, AllOperands, chain_valid, AllValid, SeriesValid, series_valid, SuffixValid, AllSuffixes, suffixes_valid, arguments_valid, no_arguments_valid, call_valid}
 use Rattle.clc_well_typed.proofs.SourceExpressions.{j_assign, j_cast, j_chain, j_post_step, j_primary, j_unary, j_chain_step, j_choice, j_comma_step, j_cond, j_expr, j_post, assign_cond, assign_set, cast_to, cast_of, chain_one, chain_level, post_step_index, post_step_step, primary_name, primary_number, primary_paren, primary_call0, primary_call, unary_post, unary_step, unary_prefix, chain_step_is, choice_is, comma_step_is, cond_test_is, cond_choice_is, expr_is, post_is}
 

@@ -25,7 +25,7 @@ use Rattle.clc_types.specs.declared.forms.Sofar.{Sofar}
 use Rattle.clc_types.specs.Words.{mark_of, value_of, is_unsigned, is_increment, type_of}
 use Rattle.clc_types.specs.Rules.{is_void, is_array as is_array_kind, is_nowhere, is_constant, is_locked, place_if, var_of, ty_of, int_or_uint, scalar_needed, indexed_needed, pointer_needed, step_needs, index_needs, operands_needed, operator_of, result_of, prefix_kind, common, scalar_of, conditional_needs, assigned_needed, value_needed}
 use Rattle.clc_types.specs.Typing.{expr_of, at_of, plain, number_form, variable_form, paren_form, index_form, deref_form, post_form, step_form, prefix_form, cast_form, first_of_chain, further, chain_form, conditional_form, assign_form}
-use Rattle.clc_well_typed.specs.WellTyped.{Seen, is_number, is_value, is_open, same_type, points_to, kind_of_type, is_prefix, is_operator, is_assignment, takes, assigns, is_variable, is_array_of, combined, chained, seen_value, seen_place, seen}
+use Rattle.clc_types.specs.WellTyped.{Seen, is_number, is_value, is_open, same_type, points_to, kind_of_type, is_prefix, is_operator, is_assignment, takes, assigns, is_variable, is_array_of, combined, chained, seen_value, seen_place, seen}
 use Rattle.clc_well_typed.proofs.Judging.{append_none, not_violated, yes, yes3, yes4, yes6}
 use Rattle.clc_well_typed.proofs.Taken.{same_self, scalar_kept, result_kept, scalar_found, taken, taken_plain, writable, assigned}
 use Rattle.clc_well_typed.proofs.TypedNodes.{each_seen, seen_number, seen_name, seen_index, seen_element, seen_deref, seen_prefix, seen_step, seen_cast, seen_paren, seen_chain, seen_cond, seen_assign}

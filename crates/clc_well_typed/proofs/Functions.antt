@@ -29,7 +29,7 @@ use Rattle.clc_types.specs.Rules.{matches, kind_of, var_of, ty_of, result_kind, 
 use Rattle.clc_types.specs.Names.{or_else, function_of, outermost, builtin_named, builtin_of}
 use Rattle.clc_types.specs.Blocks.{Decl, is_visible, last_visible, Around, nothing, quiet, past, seq, declared, block}
 use Rattle.clc_types.specs.Programs.{in_force, param_shape, param_tokens, param_name, counted, param_piece, further_params, params_piece, shapes_of, result_of, returns_tokens, heading, head, inside, function_piece, signature, Before, home_of, function_at}
-use Rattle.clc_well_typed.specs.WellTyped.{is_array, accepts, counts, together, declared as declared_in, no_arrays, is_block, function_fits}
+use Rattle.clc_types.specs.WellTyped.{is_array, accepts, counts, together, declared as declared_in, no_arrays, is_block, function_fits}
 use Rattle.clc_well_typed.proofs.Judging.{fine_is, next_parts, unless_parts, append_none, not_violated, yes, yes7}
 use Rattle.clc_well_typed.proofs.Taken.{fitting}
 use Rattle.clc_well_typed.proofs.TypedNodes.{fits_block, declared_block}

@@ -12,3 +12,4 @@ pub mod Pieces
 pub mod Statements
 pub mod Functions
 pub mod Programs
+pub mod Uses

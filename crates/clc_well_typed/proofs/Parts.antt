@@ -21,7 +21,7 @@ use Rattle.clc_types.specs.Judged.{Fine, both, unless, Context, Part, none, one,
 use Rattle.clc_types.specs.Words.{name_of, mark_of, type_tokens}
 use Rattle.clc_types.specs.Rules.{var_of, scalar_needed, pointer_needed, step_needs, index_needs, operator_needs, conditional_needs, assign_needs, call_needs, call_kind, builtin_needs}
 use Rattle.clc_types.specs.Typing.{paren_form, index_form, deref_form, post_form, step_form, prefix_form, cast_form, first_of_chain, further, chain_form, Couple, couple, conditional_form, assign_form, argument, call_form, builtin_form, name_at, callee_at, called, Operand, Series, Suffix, At, Stepped, Choices, start, operators, chain, after_comma, series, further_arguments, first_argument, arguments, suffixes, primary_part, prefixed, conditional}
-use Rattle.clc_well_typed.specs.WellTyped.{is_prefix, is_operator, is_assignment}
+use Rattle.clc_types.specs.WellTyped.{is_prefix, is_operator, is_assignment}
 use Rattle.clc_well_typed.proofs.Judging.{fine_is, next_parts, both_parts, unless_parts}
 use Rattle.clc_well_typed.proofs.Forms.{Sound, number_sound, variable_sound, paren_sound, index_sound, deref_sound, post_sound, step_sound, prefix_sound, cast_sound, conditional_sound, assign_sound, SofarSound, first_sound, further_sound, chain_sound}
 use Rattle.clc_well_typed.proofs.Calls.{Called, AllSound, argument_sound, all_last, call_sound, builtin_sound}

@@ -3,7 +3,7 @@ use Rattle.std.proofs.Common.{◌≡◌, ℕ, suc, ◌<◌, ◌≤◌, true, Lis
 use Rattle.std.specs.Prelude.{map, if◌then◌else◌}
 use Rattle.std.proofs.lemmas.Bool.{and_parts}
 use Rattle.clc_types.specs.Blocks.{Decl, earlier}
-use Rattle.clc_well_typed.specs.WellTyped.{counts}
+use Rattle.clc_types.specs.WellTyped.{counts}
 use Rattle.clc_well_typed.proofs.Judging.{yes}
 
 -- from a token on and before another

@@ -7,11 +7,10 @@ use Rattle.clc_tree.specs.SourceText.{IsProper}
 use Rattle.clc_tree.specs.declared.functions.Function.{Function}
 use Rattle.clc_tree.specs.declared.functions.Tree.{Tree}
 use Rattle.clc_types.specs.declared.typed.TFunction.{TFunction}
-use Rattle.clc_types.specs.declared.typed.Typed.{Typed}
 use Rattle.clc_types.specs.Judged.{Fine, both}
 use Rattle.clc_types.specs.Words.{name_of}
 use Rattle.clc_types.specs.Programs.{function_piece, signature, Before, height_in, function_at, with_function, functions_at, no_function, program}
-use Rattle.clc_well_typed.specs.WellTyped.{functions_fit, is_well_typed}
+use Rattle.clc_types.specs.WellTyped.{functions_fit, is_well_typed}
 use Rattle.clc_well_typed.proofs.Judging.{fine_is, next_parts, both_parts, yes}
 use Rattle.clc_well_typed.proofs.Places.{length_last}
 use Rattle.clc_well_typed.proofs.Functions.{Known, Valid, alike_last, function_valid}
@@ -33,11 +32,8 @@ functions_valid fs ms (g.one_function f more m n i j) b p done ys kn h =
     ap (functions_fit done) (sym (fine_is (d.0.0 ∷ d.0.1) ys d.2))
     ∙ yes v.fits (functions_valid more n j (with_function b p f) q (done ++ d.0.0 ∷ []) d.0.1 (known_more b p f done d.0.0 kn v) e.1)
 
-tree_valid : (tree : Tree) (ms : Spelling Token) → g.IsTree tree ms → (typed : Typed) → program tree ≡ Fine typed → is_well_typed typed.functions ≡ true
-tree_valid tree ms (g.tree all m i) typed h =
-    let d = next_parts (functions_at no_function 0 all) (λ (fs : List TFunction). Fine (record { functions = fs })) typed h in
-    ap (λ (z : Typed). is_well_typed z.functions) (sym (fine_is (record { functions = d.0 }) typed d.2))
-    ∙ functions_valid all m i no_function 0 [] d.0 (record { names = refl; heights = refl; alike = tt }) d.1
+tree_valid : (tree : Tree) (ms : Spelling Token) → g.IsTree tree ms → (functions : List TFunction) → program tree ≡ Fine functions → is_well_typed functions ≡ true
+tree_valid tree ms (g.tree all m i) functions h = functions_valid all m i no_function 0 [] functions (record { names = refl; heights = refl; alike = tt }) h
 
-pub well_typed : (tree : Tree) (typed : Typed) → IsProper tree → program tree ≡ Fine typed → is_well_typed typed.functions ≡ true
-well_typed tree typed p h = tree_valid tree p.0 p.1 typed h
+pub well_typed : (tree : Tree) (functions : List TFunction) → IsProper tree → program tree ≡ Fine functions → is_well_typed functions ≡ true
+well_typed tree functions p h = tree_valid tree p.0 p.1 functions h

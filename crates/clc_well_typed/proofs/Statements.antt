@@ -31,7 +31,7 @@ use Rattle.clc_types.specs.Words.{value_of, type_of, type_tokens, one_if}
 use Rattle.clc_types.specs.Rules.{is_array as is_array_kind, is_scalar, kind_of, var_of, ty_of, scalar_needed, no_array, fit_needed, return_needs, bare_needs, is_size}
 use Rattle.clc_types.specs.Typing.{judge, judge_assign}
 use Rattle.clc_types.specs.Blocks.{Piece, nothing, quiet, past, ending, seq, made, maybe, listed, opened, looping, declared, size, init, item_piece, item_step_piece, pointer_shape, pointer_tokens, declare_piece, condition, value, maybe_condition, maybe_value, returned, jump, evaluated, for_start_piece}
-use Rattle.clc_well_typed.specs.WellTyped.{is_number, accepts, value_type, is_condition, maybe_condition as maybe_condition_of, maybe_valid, is_declared, is_returned, all_fit, counts, together, declared as declared_in, seen, stmt_fits}
+use Rattle.clc_types.specs.WellTyped.{is_number, accepts, value_type, is_condition, maybe_condition as maybe_condition_of, maybe_valid, is_declared, is_returned, all_fit, counts, together, declared as declared_in, seen, stmt_fits}
 use Rattle.clc_well_typed.proofs.Judging.{fine_is, next_parts, unless_parts, not_violated, yes, yes3, yes4}
 use Rattle.clc_well_typed.proofs.Taken.{fit_found, plain_found}
 use Rattle.clc_well_typed.proofs.TypedNodes.{fits_block, fits_declare, fits_eval, fits_empty, fits_if0, fits_if1, fits_while, fits_do, fits_for, fits_break, fits_continue, fits_return, declared_block, declared_declare, declared_eval, declared_empty, declared_if0, declared_if1, declared_while, declared_do, declared_for, declared_break, declared_continue, declared_return}

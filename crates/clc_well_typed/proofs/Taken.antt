@@ -16,7 +16,7 @@ use Rattle.clc_types.specs.declared.forms.Space.{Space}
 use Rattle.clc_types.specs.declared.forms.Space.TheVariants as space
 use Rattle.clc_types.specs.Judged.{violations}
 use Rattle.clc_types.specs.Rules.{is_void, is_scalar, is_pointer as is_pointer_kind, is_array as is_array_kind, is_nowhere, is_constant, is_locked, same_scalar, same_space, matches, ty_of, scalar_needed, no_array, fit_needed, operands_needed, is_sum, is_plus, scalar_of, common, promoted, Operator, Sum, Arithmetic, Shift, Truth, Comma, operator_of, sum_kind, result_of, takes_pointer, gets, assigned_needed, value_needed}
-use Rattle.clc_well_typed.specs.WellTyped.{is_number, is_pointer, same_flag, same_type, accepts, kind_of_type, is_comma, takes, assigns}
+use Rattle.clc_types.specs.WellTyped.{is_number, is_pointer, same_flag, same_type, accepts, kind_of_type, is_comma, takes, assigns}
 use Rattle.clc_well_typed.proofs.Judging.{append_none, not_violated, yes}
 
 -- ---- types

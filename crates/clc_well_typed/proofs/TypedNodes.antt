@@ -19,7 +19,7 @@ use Rattle.clc_types.specs.declared.typed.TFunction.{TFunction}
 use Rattle.clc_types.specs.declared.forms.Kind.{Kind}
 use Rattle.clc_types.specs.Rules.{ty_of}
 use Rattle.clc_types.specs.Typing.{expr_of}
-use Rattle.clc_well_typed.specs.WellTyped.{Seen, node_seen, seen, stmt_layer, stmt_fits, declared_layer, declared}
+use Rattle.clc_types.specs.WellTyped.{Seen, node_seen, seen, stmt_layer, stmt_fits, declared_layer, declared}
 
 module _ (vars : List Var) (before : List TFunction) (result : Option Scalar) where
   abbrev see : TExpr → Seen
