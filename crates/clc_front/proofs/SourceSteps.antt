@@ -153,11 +153,11 @@ kernel_within fs x k e =
 pub wanted : (functions : List TFunction) (x : List ℕ) (k : ℕ) (f : TFunction) → kernel_of 0 functions x ≡ Some k → f ≡ get_or functions k f → IsWanted functions x f
 wanted functions x k f e is = record { number = k; named = e; there = kernel_there functions x k f e is }
 
-pub wanted_at : (source x : List ℕ) (typed : Typed) (k : ℕ) (f : TFunction) → HasKernel source x typed k → f ≡ get_or typed.functions k f → IsWanted typed x f
-wanted_at source x typed k f h is = wanted typed x k f h.named is
+pub wanted_at : (source x : List ℕ) (functions : List TFunction) (k : ℕ) (f : TFunction) → HasKernel source x functions k → f ≡ get_or functions k f → IsWanted functions x f
+wanted_at source x functions k f h is = wanted functions x k f h.named is
 
-pub kernel_of_wanted : (source x : List ℕ) (typed : Typed) (f : TFunction) → IsTyped source typed → (w : IsWanted typed x f) → HasKernel source x typed w.number
-kernel_of_wanted source x typed f h w = record { is_typed = h; named = w.named; there = kernel_within typed.functions x w.number w.named }
+pub kernel_of_wanted : (source x : List ℕ) (functions : List TFunction) (f : TFunction) → IsTyped source functions → (w : IsWanted functions x f) → HasKernel source x functions w.number
+kernel_of_wanted source x functions f h w = record { is_typed = h; named = w.named; there = kernel_within functions x w.number w.named }
 
 -- ---- refusals
 

@@ -15,7 +15,6 @@ use Rattle.clc_parser.specs.SourceTree.{IsText, FaultAt}
 use Rattle.clc_parser.proofs.OneAnswer.{one_answer}
 use Rattle.clc_types.specs.declared.forms.Fault.{Fault}
 use Rattle.clc_types.specs.declared.typed.TFunction.{TFunction}
-use Rattle.clc_types.specs.declared.typed.Typed.{Typed}
 use Rattle.clc_types.specs.Judged.{Judged, Fine, Faulty, faults_of, Before, IsLeast}
 use Rattle.clc_types.specs.Programs.{program, kernel_of}
 use Rattle.promise.specs.declared.refusal.SourceRule.{SourceRule}
@@ -38,10 +37,10 @@ same_tree source ts us a b h g =
     let same = same_tokens source ts us h.spelled g.spelled in
     has_one_tree a b us (subst (λ vs. IsTreeOf a vs) same (tree_of_text 65 a ts h.text)) (tree_of_text 65 b us g.text)
 
-fine_once : (j : Judged Typed) (a b : Typed) → j ≡ Fine a → j ≡ Fine b → a ≡ b
+fine_once : (j : Judged (List TFunction)) (a b : List TFunction) → j ≡ Fine a → j ≡ Fine b → a ≡ b
 fine_once j a b h g = cc
 
-pub same_typed : (source : List ℕ) (a b : Typed) → IsTyped source a → IsTyped source b → a ≡ b
+pub same_typed : (source : List ℕ) (a b : List TFunction) → IsTyped source a → IsTyped source b → a ≡ b
 same_typed source a b h g =
     let same : h.tree ≡ g.tree = same_tree source h.tokens g.tokens h.tree g.tree h.is_program g.is_program in
     fine_once (program g.tree) a b (sym (ap program same) ∙ h.fine) g.fine
@@ -52,13 +51,13 @@ named_once n a b h g = cc
 there_once : (f : Option TFunction) (a b : TFunction) → f ≡ Some a → f ≡ Some b → a ≡ b
 there_once f a b h g = cc
 
-same_wanted : (typed : Typed) (kernel : List ℕ) (a b : TFunction) → IsWanted typed kernel a → IsWanted typed kernel b → a ≡ b
+same_wanted : (typed : List TFunction) (kernel : List ℕ) (a b : TFunction) → IsWanted typed kernel a → IsWanted typed kernel b → a ≡ b
 same_wanted typed kernel a b h g =
-    let same : h.number ≡ g.number = named_once (kernel_of 0 typed.functions kernel) h.number g.number h.named g.named in
-    there_once (slice_get typed.functions g.number) a b (subst (λ n. slice_get typed.functions n ≡ Some a) same h.there) g.there
+    let same : h.number ≡ g.number = named_once (kernel_of 0 typed kernel) h.number g.number h.named g.named in
+    there_once (slice_get typed g.number) a b (subst (λ n. slice_get typed n ≡ Some a) same h.there) g.there
 
 -- the wanted kernels of two typed trees of a source
-pub same_function : (source kernel : List ℕ) (t u : Typed) (a b : TFunction) → IsTyped source t → IsTyped source u → IsWanted t kernel a → IsWanted u kernel b → a ≡ b
+pub same_function : (source kernel : List ℕ) (t u : List TFunction) (a b : TFunction) → IsTyped source t → IsTyped source u → IsWanted t kernel a → IsWanted u kernel b → a ≡ b
 same_function source kernel t u a b h g w v =
     same_wanted u kernel a b (subst (λ x. IsWanted x kernel a) (same_typed source t u h g) w) v
 
@@ -88,23 +87,23 @@ module _ (source kernel : List ℕ) where
       let same = same_tokens source ts us h g.spelled in
       one_answer.apart 65 tree reason k us g.text (subst (λ vs. FaultAt 65 reason k vs) same fault)
 
-  typed_lawful : (ts : List Token) (tree : Tree) (one : Fault) (more : List Fault) (typed : Typed) → IsProgram source ts tree → program tree ≡ Faulty one more → IsTyped source typed → ⊥
+  typed_lawful : (ts : List Token) (tree : Tree) (one : Fault) (more : List Fault) (typed : List TFunction) → IsProgram source ts tree → program tree ≡ Faulty one more → IsTyped source typed → ⊥
   typed_lawful ts tree one more typed h faulty g =
       let same : tree ≡ g.tree = same_tree source ts g.tokens tree g.tree h g.is_program in
       fine_or (program g.tree) (sym (ap program same) ∙ faulty) g.fine
     where
-      fine_or : (j : Judged Typed) → j ≡ Faulty one more → j ≡ Fine typed → ⊥
+      fine_or : (j : Judged (List TFunction)) → j ≡ Faulty one more → j ≡ Fine typed → ⊥
       fine_or j e d = cc
 
-  name_found : (t u : Typed) (n : ℕ) → IsTyped source t → kernel_of 0 t.functions kernel ≡ None → IsTyped source u → kernel_of 0 u.functions kernel ≡ Some n → ⊥
+  name_found : (t u : List TFunction) (n : ℕ) → IsTyped source t → kernel_of 0 t kernel ≡ None → IsTyped source u → kernel_of 0 u kernel ≡ Some n → ⊥
   name_found t u n h none g named =
       let same : t ≡ u = same_typed source t u h g in
-      none_or (kernel_of 0 u.functions kernel) n (subst (λ x. kernel_of 0 x.functions kernel ≡ None) same none) named
+      none_or (kernel_of 0 u kernel) n (subst (λ x. kernel_of 0 x kernel ≡ None) same none) named
     where
       none_or : (n : Option ℕ) (k : ℕ) → n ≡ None → n ≡ Some k → ⊥
       none_or n k e d = cc
 
-  pub lawful_none : (typed : Typed) (number : ℕ) (rule : SourceRule) (at : ℕ) → HasKernel source kernel typed number → IsFirstViolation source kernel rule at → ⊥
+  pub lawful_none : (typed : List TFunction) (number : ℕ) (rule : SourceRule) (at : ℕ) → HasKernel source kernel typed number → IsFirstViolation source kernel rule at → ⊥
   lawful_none typed number rule at h (bytes r place fault) = spelled_lawful r place h.is_typed.tokens fault h.is_typed.is_program.spelled
   lawful_none typed number rule at h (grammar ts reason k spelled fault) = program_lawful ts h.is_typed.tokens reason k h.is_typed.tree spelled fault h.is_typed.is_program
   lawful_none typed number rule at h (typing ts tree one more first is_program faulty least) = typed_lawful ts tree one more typed is_program faulty h.is_typed
@@ -143,10 +142,10 @@ module _ (source kernel : List ℕ) where
   one_violation rule other at place (no_kernel t i g) (typing ts tree one more first h d f) = absurd (typed_lawful ts tree one more t h d i)
   one_violation rule other at place (no_kernel t h f) (no_kernel u i g) = (refl, refl)
 
-same_kernel : (source kernel : List ℕ) (t u : Typed) (n k : ℕ) → HasKernel source kernel t n → HasKernel source kernel u k → (t ≡ u) × (n ≡ k)
+same_kernel : (source kernel : List ℕ) (t u : List TFunction) (n k : ℕ) → HasKernel source kernel t n → HasKernel source kernel u k → (t ≡ u) × (n ≡ k)
 same_kernel source kernel t u n k h g =
     let same : t ≡ u = same_typed source t u h.is_typed g.is_typed in
-    (same, named_once (kernel_of 0 u.functions kernel) n k (subst (λ x. kernel_of 0 x.functions kernel ≡ Some n) same h.named) g.named)
+    (same, named_once (kernel_of 0 u kernel) n k (subst (λ x. kernel_of 0 x kernel ≡ Some n) same h.named) g.named)
 
 pub judged_once : SourcesAreJudgedOnce
 judged_once = record {
@@ -159,17 +158,17 @@ judged_once = record {
 
 -- what answers a typed tree and a kernel only where the source has them, and a rule only where it is the first violated one
 module _ (source kernel : List ℕ) where
-  pub only_rule : (result : Result WantedKernel Refusal) → IfOk result (λ f. HasKernel source kernel f.typed f.kernel)
+  pub only_rule : (result : Result WantedKernel Refusal) → IfOk result (λ f. HasKernel source kernel f.typed.functions f.kernel)
       → ((rule : SourceRule) (at : ℕ) → result ≡ Err (Rule rule at) → IsFirstViolation source kernel rule at)
       → (rule : SourceRule) (at : ℕ) → IsFirstViolation source kernel rule at → (result ≡ Err (Rule rule at)) ⊎ (result ≡ Err Memory)
-  only_rule (Ok f) made told rule at is = absurd (lawful_none source kernel f.typed f.kernel rule at made is)
+  only_rule (Ok f) made told rule at is = absurd (lawful_none source kernel f.typed.functions f.kernel rule at made is)
   only_rule (Err (Rule other place)) made told rule at is =
       let same = one_violation source kernel other rule place at (told other place refl) is in
       inl (ap (λ r. Err (Rule r place)) same.0 ∙ ap (λ p. Err (Rule rule p)) same.1)
   only_rule (Err Memory) made told rule at is = inr refl
 
   pub only_kernel : (result : Result WantedKernel Refusal) → ((rule : SourceRule) (at : ℕ) → result ≡ Err (Rule rule at) → IsFirstViolation source kernel rule at)
-      → (typed : Typed) (number : ℕ) → HasKernel source kernel typed number → ((f : WantedKernel) × (result ≡ Ok f)) ⊎ (result ≡ Err Memory)
+      → (typed : List TFunction) (number : ℕ) → HasKernel source kernel typed number → ((f : WantedKernel) × (result ≡ Ok f)) ⊎ (result ≡ Err Memory)
   only_kernel (Ok f) told typed number is = inl (f, refl)
   only_kernel (Err (Rule rule at)) told typed number is = absurd (lawful_none source kernel typed number rule at is (told rule at refl))
   only_kernel (Err Memory) told typed number is = inr refl

@@ -1,6 +1,6 @@
 -- That a source is judged in one way.
 use Rattle.std.specs.Prelude.{◌≡◌, ℕ, List}
-use Rattle.clc_types.specs.declared.typed.Typed.{Typed}
+use Rattle.clc_types.specs.declared.typed.TFunction.{TFunction}
 use Rattle.promise.specs.declared.refusal.SourceRule.{SourceRule}
 use Rattle.clc_front.specs.Profile.{HasKernel, IsFirstViolation}
 
@@ -8,6 +8,6 @@ use Rattle.clc_front.specs.Profile.{HasKernel, IsFirstViolation}
 pub record SourcesAreJudgedOnce : Type 0 where
   pub one : (source kernel : List ℕ) (rule other : SourceRule) (at place : ℕ)
       → IsFirstViolation source kernel rule at → IsFirstViolation source kernel other place → (rule ≡ other) × (at ≡ place)
-  pub none : (source kernel : List ℕ) (typed : Typed) (number : ℕ) (rule : SourceRule) (at : ℕ) → HasKernel source kernel typed number → ¬ (IsFirstViolation source kernel rule at)
-  pub same : (source kernel : List ℕ) (typed other : Typed) (number another : ℕ)
-      → HasKernel source kernel typed number → HasKernel source kernel other another → (typed ≡ other) × (number ≡ another)
+  pub none : (source kernel : List ℕ) (functions : List TFunction) (number : ℕ) (rule : SourceRule) (at : ℕ) → HasKernel source kernel functions number → ¬ (IsFirstViolation source kernel rule at)
+  pub same : (source kernel : List ℕ) (functions other : List TFunction) (number another : ℕ)
+      → HasKernel source kernel functions number → HasKernel source kernel other another → (functions ≡ other) × (number ≡ another)

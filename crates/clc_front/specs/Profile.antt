@@ -10,7 +10,6 @@ use Rattle.clc_tree.specs.declared.functions.Tree.{Tree}
 use Rattle.clc_parser.specs.SourceTree.{IsText, FaultAt}
 use Rattle.clc_types.specs.declared.forms.Fault.{Fault}
 use Rattle.clc_types.specs.declared.typed.TFunction.{TFunction}
-use Rattle.clc_types.specs.declared.typed.Typed.{Typed}
 use Rattle.clc_types.specs.Judged.{Fine, Faulty, IsLeast}
 use Rattle.clc_types.specs.Programs.{program, kernel_of}
 use Rattle.promise.specs.declared.refusal.SourceRule.{SourceRule}
@@ -54,24 +53,24 @@ pub record IsProgram (source : List ℕ) (tokens : List Token) (tree : Tree) : T
   pub spelled : IsSpelled source tokens
   pub text : IsText 65 tree tokens
 
--- the program violates no typing rule, and this is its typed tree
-pub record IsTyped (source : List ℕ) (typed : Typed) : Type 0 where
+-- the program violates no typing rule, and these are the functions of its typed tree
+pub record IsTyped (source : List ℕ) (functions : List TFunction) : Type 0 where
   pub tokens : List Token
   pub tree : Tree
   pub is_program : IsProgram source tokens tree
-  pub fine : program tree ≡ Fine typed
+  pub fine : program tree ≡ Fine functions
 
 -- the kernel of that name is this function
-pub record IsWanted (typed : Typed) (kernel : List ℕ) (function : TFunction) : Type 0 where
+pub record IsWanted (functions : List TFunction) (kernel : List ℕ) (function : TFunction) : Type 0 where
   pub number : ℕ
-  pub named : kernel_of 0 typed.functions kernel ≡ Some number
-  pub there : slice_get typed.functions number ≡ Some function
+  pub named : kernel_of 0 functions kernel ≡ Some number
+  pub there : slice_get functions number ≡ Some function
 
--- no rule is violated for a kernel of that name: the typed tree has one, at this place among its functions
-pub record HasKernel (source kernel : List ℕ) (typed : Typed) (number : ℕ) : Type 0 where
-  pub is_typed : IsTyped source typed
-  pub named : kernel_of 0 typed.functions kernel ≡ Some number
-  pub there : number < length typed.functions
+-- no rule is violated for a kernel of that name: these are the functions of the typed tree, and the kernel stands at this place among them
+pub record HasKernel (source kernel : List ℕ) (functions : List TFunction) (number : ℕ) : Type 0 where
+  pub is_typed : IsTyped source functions
+  pub named : kernel_of 0 functions kernel ≡ Some number
+  pub there : number < length functions
 
 -- The first violated rule and its offset. Rules on bytes come first, then those of the grammar, the typing rules and the name of the kernel; of one
 -- class the first is that of the class
@@ -81,4 +80,4 @@ pub data IsFirstViolation (source kernel : List ℕ) : SourceRule → ℕ → Ty
       → IsFirstViolation source kernel (grammar_rule reason) (place_of source tokens k)
   typing : (tokens : List Token) (tree : Tree) (one : Fault) (more : List Fault) (first : Fault) → IsProgram source tokens tree
       → program tree ≡ Faulty one more → IsLeast first (one ∷ more) → IsFirstViolation source kernel (typing_rule first.rule) (place_of source tokens first.token)
-  no_kernel : (typed : Typed) → IsTyped source typed → kernel_of 0 typed.functions kernel ≡ None → IsFirstViolation source kernel K1 0
+  no_kernel : (functions : List TFunction) → IsTyped source functions → kernel_of 0 functions kernel ≡ None → IsFirstViolation source kernel K1 0

@@ -1,7 +1,7 @@
 //! From a source and the name of a kernel to its typed tree.
 
-ghost use Rattle.std.specs.Prelude.{◌≡◌, ◌⊎◌, ℕ, Ok, Err, IfOk};
-ghost use Rattle.clc_types.specs.declared.typed.Typed.{Typed as AnyTyped};
+ghost use Rattle.std.specs.Prelude.{◌≡◌, ◌⊎◌, ℕ, List, Ok, Err, IfOk};
+ghost use Rattle.clc_types.specs.declared.typed.TFunction.{TFunction};
 ghost use Rattle.promise.specs.declared.refusal.SourceRule.{SourceRule as AnyRule};
 ghost use Rattle.clc_front.specs.declared.wanted.WantedKernel.{WantedKernel as AnyWanted};
 ghost use Rattle.clc_front.specs.Profile.{HasKernel, IsFirstViolation};
@@ -24,7 +24,7 @@ pub struct WantedKernel {
 /// Where memory is wanting the answer is `Memory`. Whether the form of the kernel can be compiled isn't asked here.
 pub fn front(alloc: Global, source: &[u8], kernel: &[u8]) -> Result<WantedKernel, Refusal>
     // The source violates no rule, and has this typed tree and this kernel.
-    ensures kernel { IfOk result (λ f. HasKernel source.now kernel.now f.typed f.kernel) }
+    ensures kernel { IfOk result (λ f. HasKernel source.now kernel.now f.typed.functions f.kernel) }
 
     // A rule is the first that is violated.
     ensures refused { (rule : AnyRule) (at : ℕ) → result ≡ Err (Refusal.Rule rule at)
@@ -33,14 +33,14 @@ pub fn front(alloc: Global, source: &[u8], kernel: &[u8]) -> Result<WantedKernel
     // Only want of memory hides the first violated rule, or the kernel where there is none.
     ensures violated { (rule : AnyRule) (at : ℕ) → IsFirstViolation source.now kernel.now rule at
         → (result ≡ Err (Refusal.Rule rule at)) ⊎ (result ≡ Err Refusal.Memory) }
-    ensures lawful { (typed : AnyTyped) (number : ℕ) → HasKernel source.now kernel.now typed number
+    ensures lawful { (functions : List TFunction) (number : ℕ) → HasKernel source.now kernel.now functions number
         → ((f : AnyWanted) × (result ≡ Ok f)) ⊎ (result ≡ Err Refusal.Memory) }
 {
     found(alloc, source, kernel)
 }
 
 fn found(alloc: Global, source: &[u8], kernel: &[u8]) -> Result<WantedKernel, Refusal>
-    ensures kernel { IfOk result (λ f. HasKernel source.now kernel.now f.typed f.kernel) }
+    ensures kernel { IfOk result (λ f. HasKernel source.now kernel.now f.typed.functions f.kernel) }
     ensures refused { (rule : AnyRule) (at : ℕ) → result ≡ Err (Refusal.Rule rule at)
         → IsFirstViolation source.now kernel.now rule at }
 {

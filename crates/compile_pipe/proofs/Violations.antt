@@ -3,7 +3,6 @@ use Rattle.std.proofs.Common.{◌≡◌, ℕ, List, Bool, true, false, refl, sym
 use Rattle.std.specs.Prelude.{◌⊎◌, Result, Ok, Err, IfOk}
 use Rattle.std.specs.Result.{IsErrAnd}
 use Rattle.clc_types.specs.declared.typed.TFunction.{TFunction}
-use Rattle.clc_types.specs.declared.typed.Typed.{Typed}
 use Rattle.clc_front.specs.Profile.{IsTyped, IsWanted, HasKernel, IsFirstViolation as IsFirstOfFront}
 use Rattle.clc_front.proofs.SourceSteps.{kernel_of_wanted}
 use Rattle.clc_front.proofs.Violations.{same_function, judged_once}
@@ -15,7 +14,7 @@ use Rattle.compile_pipe.specs.Profile.{is_built, IsInProfile, IsFirstViolation, 
 use Rattle.compile_pipe.specs.Kernels.{opencl}
 
 module _ (source kernel : List ℕ) where
-  form_built : (t u : Typed) (a b : TFunction) → IsTyped source t → IsWanted t kernel a → is_built a ≡ false → IsTyped source u → IsWanted u kernel b → is_built b ≡ true → ⊥
+  form_built : (t u : List TFunction) (a b : TFunction) → IsTyped source t → IsWanted t kernel a → is_built a ≡ false → IsTyped source u → IsWanted u kernel b → is_built b ≡ true → ⊥
   form_built t u a b h w unmade g v made =
       let same : a ≡ b = same_function source kernel t u a b h g w v in
       both (is_built b) (sym (ap is_built same) ∙ unmade) made
@@ -24,12 +23,12 @@ module _ (source kernel : List ℕ) where
       both c e d = cc
 
   -- a source that the front end takes violates none of its rules
-  front_none : (t : Typed) (f : TFunction) (rule : SourceRule) (at : ℕ) → IsTyped source t → IsWanted t kernel f → IsFirstOfFront source kernel rule at → ⊥
+  front_none : (t : List TFunction) (f : TFunction) (rule : SourceRule) (at : ℕ) → IsTyped source t → IsWanted t kernel f → IsFirstOfFront source kernel rule at → ⊥
   front_none t f rule at h w is = judged_once.none source kernel t w.number rule at (kernel_of_wanted source kernel t f h w) is
 
   pub lawful_none : (rule : SourceRule) (at : ℕ) → IsInProfile source kernel → IsFirstViolation source kernel rule at → ⊥
-  lawful_none rule at h (of_front r place is) = front_none h.typed h.function r place h.is_typed h.wanted is
-  lawful_none rule at h (unbuilt typed function is_typed wanted unmade) = form_built typed h.typed function h.function is_typed wanted unmade h.is_typed h.wanted h.built
+  lawful_none rule at h (of_front r place is) = front_none h.functions h.function r place h.is_typed h.wanted is
+  lawful_none rule at h (unbuilt typed function is_typed wanted unmade) = form_built typed h.functions function h.function is_typed wanted unmade h.is_typed h.wanted h.built
 
   one_violation : (rule other : SourceRule) (at place : ℕ) → IsFirstViolation source kernel rule at → IsFirstViolation source kernel other place → (rule ≡ other) × (at ≡ place)
   one_violation rule other at place (of_front r p f) (of_front s q g) = judged_once.one source kernel r s p q f g

@@ -5,7 +5,6 @@ use Rattle.clc_types.specs.declared.typed.TStmt.{TStmt, out-TStmt}
 use Rattle.clc_types.specs.declared.typed.TStmt.TheOpen as s
 use Rattle.clc_types.specs.declared.typed.TStmt.TheOpen.{TStmt-F}
 use Rattle.clc_types.specs.declared.typed.TFunction.{TFunction}
-use Rattle.clc_types.specs.declared.typed.Typed.{Typed}
 use Rattle.clc_front.specs.Profile.{IsTyped, IsWanted, IsFirstViolation as IsFirstOfFront}
 use Rattle.promise.specs.declared.refusal.SourceRule.{SourceRule}
 use Rattle.promise.specs.declared.refusal.SourceRule.TheVariants.{N0}
@@ -23,14 +22,14 @@ is_built f = eqb f.params 0 && is_empty_block (out-TStmt f.body)
 -- ---- the profile
 
 pub record IsInProfile (source kernel : List ℕ) : Type 0 where
-  pub typed : Typed
+  pub functions : List TFunction
   pub function : TFunction
-  pub is_typed : IsTyped source typed
-  pub wanted : IsWanted typed kernel function
+  pub is_typed : IsTyped source functions
+  pub wanted : IsWanted functions kernel function
   pub built : is_built function ≡ true
 
 -- The first violated rule and its offset: one of those that the front end tells, and else that the form of the kernel isn't built
 pub data IsFirstViolation (source kernel : List ℕ) : SourceRule → ℕ → Type 0 where
   of_front : (rule : SourceRule) (at : ℕ) → IsFirstOfFront source kernel rule at → IsFirstViolation source kernel rule at
-  unbuilt : (typed : Typed) (function : TFunction) → IsTyped source typed → IsWanted typed kernel function → is_built function ≡ false
+  unbuilt : (functions : List TFunction) (function : TFunction) → IsTyped source functions → IsWanted functions kernel function → is_built function ≡ false
       → IsFirstViolation source kernel N0 function.at

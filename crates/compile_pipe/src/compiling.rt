@@ -26,9 +26,9 @@ fn is_built(function: &TFunction) -> bool
 /// Whether the form of the wanted kernel of a source is built.
 fn allow(front: &WantedKernel) -> Result<(), Refusal>
     requires { front.now.kernel < length front.now.typed.functions }
-    ensures ok { OnOk result ((source kernel : List ℕ) → HasKernel source kernel front.now.typed front.now.kernel → IsInProfile source kernel) }
+    ensures ok { OnOk result ((source kernel : List ℕ) → HasKernel source kernel front.now.typed.functions front.now.kernel → IsInProfile source kernel) }
     ensures err { (rule : AnyRule) (at : ℕ) → result ≡ Err (Refusal.Rule rule at)
-        → (source kernel : List ℕ) → HasKernel source kernel front.now.typed front.now.kernel → IsFirstViolation source kernel rule at }
+        → (source kernel : List ℕ) → HasKernel source kernel front.now.typed.functions front.now.kernel → IsFirstViolation source kernel rule at }
 {
     let function = &front.typed.functions.as_slice()[front.kernel as usize];
     if !is_built(function) {

@@ -15,4 +15,4 @@ returns-in-Some-clause-kernel c =
 
 pub returns-in-None-clause-refused : goal.returns-in-None-clause-refused
 returns-in-None-clause-refused c = λ rule at e.
-    told c.args.source.now c.args.kernel.now K1 rule 0 at e (no_kernel c.in_ok-typed.typed c.in_ok-typed.ensures.ok (sym c.kernel.ensures ∙ c.in-None.is))
+    told c.args.source.now c.args.kernel.now K1 rule 0 at e (no_kernel c.in_ok-typed.typed.functions c.in_ok-typed.ensures.ok (sym c.kernel.ensures ∙ c.in-None.is))

@@ -9,17 +9,17 @@ pub returns-then-not-is_built-clause-err : goal.returns-then-not-is_built-clause
 returns-then-not-is_built-clause-err c = λ rule at e source kernel is.
     let f = c.index-as_slice-front.result in
     told source kernel N0 rule _ at e
-    (unbuilt c.args.front.now.typed f is.is_typed
-    (wanted_at source kernel c.args.front.now.typed c.args.front.now.kernel f is (c.index-as_slice-front.is ∙ ap (λ fs. get_or fs c.args.front.now.kernel f) c.as_slice.ensures))
+    (unbuilt c.args.front.now.typed.functions f is.is_typed
+    (wanted_at source kernel c.args.front.now.typed.functions c.args.front.now.kernel f is (c.index-as_slice-front.is ∙ ap (λ fs. get_or fs c.args.front.now.kernel f) c.as_slice.ensures))
     (sym c.is_built.ensures ∙ c.if-not-is_built.true))
 
 pub returns-clause-ok : goal.returns-clause-ok
 returns-clause-ok c = λ source kernel is.
     let f = c.index-as_slice-front.result in
     record {
-      typed = c.args.front.now.typed;
+      functions = c.args.front.now.typed.functions;
       function = f;
       is_typed = is.is_typed;
-      wanted = wanted_at source kernel c.args.front.now.typed c.args.front.now.kernel f is (c.index-as_slice-front.is ∙ ap (λ fs. get_or fs c.args.front.now.kernel f) c.as_slice.ensures);
+      wanted = wanted_at source kernel c.args.front.now.typed.functions c.args.front.now.kernel f is (c.index-as_slice-front.is ∙ ap (λ fs. get_or fs c.args.front.now.kernel f) c.as_slice.ensures);
       built = sym c.is_built.ensures ∙ c.if-not-is_built.false;
     }
