@@ -12,7 +12,6 @@ use Rattle.clc_tree.specs.declared.functions.Tree.{Tree}
 use Rattle.clc_tree.specs.Flat.{joined, optional_tokens, returns_tokens, params_tokens, block_tokens, function_tokens, flat_of}
 use Rattle.clc_types.specs.declared.forms.Fault.{Fault}
 use Rattle.clc_types.specs.declared.typed.TFunction.{TFunction}
-use Rattle.clc_types.specs.declared.typed.Typed.{Typed}
 use Rattle.clc_check.specs.Checked.{functions_in}
 use Rattle.clc_types.specs.declared.typed.TypeFault.TheVariants.{Rule}
 use Rattle.clc_types.specs.Judged.{Judged, Fine, Faulty, both, next, IsLeast}
@@ -103,9 +102,9 @@ rule_past (rule ∷ rules) (suc k) last past = rule_past rules k last (omega (ar
 
 -- ---- what was checked
 
-pub checked_fine : (j : Judged (List TFunction)) (typed : Typed) → Judges j (functions_in (Ok typed)) → j ≡ Fine typed.functions
-checked_fine (Fine a) typed h = ap Fine h
-checked_fine (Faulty f fs) typed h = absurd h
+pub checked_fine : (j : Judged (List TFunction)) (functions : List TFunction) → Judges j (Ok functions) → j ≡ Fine functions
+checked_fine (Fine a) functions h = ap Fine h
+checked_fine (Faulty f fs) functions h = absurd h
 
 abbrev pub HasLeast : Judged (List TFunction) → Fault → Type 0
 HasLeast j first = (one : Fault) × (more : List Fault) × (j ≡ Faulty one more) × IsLeast first (one ∷ more)
