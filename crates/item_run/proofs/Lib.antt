@@ -1,0 +1,10 @@
+pub mod Parts
+pub mod Exprs
+pub mod Marks
+pub mod Rounds
+pub mod Stmts
+pub mod Spent
+pub mod Called
+pub mod Frames
+pub mod Builtins
+pub mod Sizes
