@@ -8,7 +8,7 @@ ghost use Rattle.item_meaning.specs.ItemMeaning.{item};
 
 use crate::items::KernelItems;
 use clc_types::Typed;
-use launch_file::Launch;
+use launch_file::{Launch, count_items};
 use launch_meaning::{Buffers, Bytes, Verdict};
 use sqlite_items::Items;
 use std::alloc::{AllocError, Global};
@@ -34,14 +34,6 @@ pub fn judge(
         launch,
     };
     launch_verdict::judge(alloc, &work, count_items(launch), opening, turns)
-}
-
-/// How many items there are.
-fn count_items(launch: &Launch) -> u32
-    ensures { result ≡ items_of launch.now.global }
-{
-    let [x, y, z] = launch.global;
-    x * y * z
 }
 
 fn copy_of(alloc: Global, buffers: &[Bytes]) -> Result<Buffers, AllocError>

@@ -17,4 +17,5 @@ pub use launch::{Arg, BufferLine, Launch, LaunchFault, Memory, Schedule};
 pub use laws::{law_fit, law_launches, law_layout, law_lines, law_uniforms};
 pub use places::{Places, Region2, layout};
 pub use reading::read_launch;
-pub use work::uniforms;
+pub use words::number;
+pub use work::{count_items, uniforms};

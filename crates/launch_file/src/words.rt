@@ -50,7 +50,7 @@ fn number_in(text: &str) -> Option<u64>
     text.parse().ok()
 }
 
-/// The number with this text.
+/// The number with this text: in decimal, without leading zeros, below 2^64.
 pub fn number(word: &[u8]) -> Option<u64>
     ensures { result ≡ number_of word.now }
 {

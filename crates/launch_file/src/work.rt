@@ -12,8 +12,8 @@ use std::alloc::{AllocError, Global};
 /// How many items a batch has.
 const BATCH: u32 = 16;
 
-/// How many items there are.
-fn count_items(launch: &Launch) -> u32
+/// How many work-items a launch has.
+pub fn count_items(launch: &Launch) -> u32
     ensures items { result ≡ items_of launch.now.global }
     ensures few { result ≤ 1048576 }
 {
