@@ -1,2 +1,3 @@
 pub mod Violations
 pub mod SourceSteps
+pub mod KindsAt

@@ -1,6 +1,6 @@
 -- What the front end's answers say of a source.
 use Rattle.std.proofs.Common.{◌≡◌, ℕ, zero, suc, ◌+◌, ◌<◌, ◌≤◌, ◌^◌, List, [], ◌∷◌, ◌++◌, length, get_or, Bool, true, false, refl, sym, ap, ◌∙◌, subst, arith, inl, inr}
-use Rattle.std.specs.Prelude.{◌&&◌, Some, slice_get, bytes_eq, Result, Ok, Err, if◌then◌else◌, map}
+use Rattle.std.specs.Prelude.{◌&&◌, Some, slice_get, bytes_eq, Result, Ok, Err, IfOk, if◌then◌else◌, map}
 use Rattle.std.proofs.lemmas.Bool.{cases_lt}
 use Rattle.std.proofs.lemmas.List.{length-append}
 use Rattle.clc_lexer.specs.declared.token.Token.{Token}
@@ -19,6 +19,7 @@ use Rattle.clc_types.specs.Programs.{program, kernel_of, Judges, Before, functio
 use Rattle.promise.specs.declared.refusal.SourceRule.{SourceRule}
 use Rattle.promise.specs.declared.refusal.Refusal.{Refusal}
 use Rattle.promise.specs.declared.refusal.Refusal.TheVariants.{Rule as Refused}
+use Rattle.clc_front.specs.declared.wanted.WantedKernel.{WantedKernel}
 use Rattle.clc_front.specs.Profile.{place_of, IsSpelled, IsTyped, IsWanted, HasKernel, IsFirstViolation}
 
 -- ---- sizes
@@ -157,6 +158,13 @@ wanted_at source x functions k f h is = wanted functions x k f h.named is
 
 pub kernel_of_wanted : (source x : List ℕ) (functions : List TFunction) (f : TFunction) → IsTyped source functions → (w : IsWanted functions x f) → HasKernel source x functions w.number
 kernel_of_wanted source x functions f h w = record { is_typed = h; named = w.named; there = kernel_within functions x w.number w.named }
+
+-- a kernel that is handed on is the same
+pub kernel_kept : (source kernel : List ℕ) (functions : List TFunction) (number : ℕ) (result : Result WantedKernel Refusal) → HasKernel source kernel functions number
+    → IfOk result (λ f. (f.typed.functions ≡ functions) × (f.kernel ≡ number)) → IfOk result (λ f. HasKernel source kernel f.typed.functions f.kernel)
+kernel_kept source kernel functions number (Ok f) has same =
+    subst (λ fs. HasKernel source kernel fs f.kernel) (sym same.0) (subst (HasKernel source kernel functions) (sym same.1) has)
+kernel_kept source kernel functions number (Err e) has same = tt
 
 -- ---- refusals
 

@@ -1,30 +1,39 @@
 //! From a source and the name of a kernel to its typed tree.
 
-ghost use Rattle.std.specs.Prelude.{◌≡◌, ◌⊎◌, ℕ, List, Ok, Err, IfOk};
+ghost use Rattle.std.specs.Prelude.{◌≡◌, ◌⊎◌, ℕ, List, Ok, Err, IfOk, IfErr};
 ghost use Rattle.clc_types.specs.declared.typed.TFunction.{TFunction};
 ghost use Rattle.promise.specs.declared.refusal.SourceRule.{SourceRule as AnyRule};
 ghost use Rattle.clc_front.specs.declared.wanted.WantedKernel.{WantedKernel as AnyWanted};
 ghost use Rattle.clc_front.specs.Profile.{HasKernel, IsFirstViolation};
+ghost use Rattle.clc_front.specs.Kinds.{kinds_at as kinds_at_number};
 
+use crate::kinds::kinds_at;
 use crate::sources::typed_tree;
 use clc_check::kernel as kernel_number;
 use clc_types::Typed;
 use promise::{Refusal, SourceRule};
+use q_lane::Kind;
 use std::alloc::Global;
 
-/// The typed tree of a source, and the number of its kernel of the wanted name among the functions.
+/// The typed tree of a source, the number of its kernel of the wanted name among the functions, and the kinds of the
+/// kernel's parameters in their order.
 #[derive(Drop)]
 pub struct WantedKernel {
     pub typed: Typed,
     pub kernel: u32,
+    pub kinds: Vec<Kind>,
 }
 
-/// The typed tree of a source with the number of the kernel of this name, or the first rule that is violated, at a byte counted from 0.
+/// The typed tree of a source with the number of the kernel of this name and the kinds of its parameters, or the first rule that is
+/// violated, at a byte counted from 0.
 ///
 /// Where memory is wanting the answer is `Memory`. Whether the form of the kernel can be compiled isn't asked here.
 pub fn front(alloc: Global, source: &[u8], kernel: &[u8]) -> Result<WantedKernel, Refusal>
     // The source violates no rule, and has this typed tree and this kernel.
     ensures kernel { IfOk result (λ f. HasKernel source.now kernel.now f.typed.functions f.kernel) }
+
+    // The kernel's parameters are of these kinds.
+    ensures kinds { IfOk result (λ f. f.kinds.items ≡ kinds_at_number f.typed.functions f.kernel) }
 
     // A rule is the first that is violated.
     ensures refused { (rule : AnyRule) (at : ℕ) → result ≡ Err (Refusal.Rule rule at)
@@ -41,15 +50,32 @@ pub fn front(alloc: Global, source: &[u8], kernel: &[u8]) -> Result<WantedKernel
 
 fn found(alloc: Global, source: &[u8], kernel: &[u8]) -> Result<WantedKernel, Refusal>
     ensures kernel { IfOk result (λ f. HasKernel source.now kernel.now f.typed.functions f.kernel) }
+    ensures kinds { IfOk result (λ f. f.kinds.items ≡ kinds_at_number f.typed.functions f.kernel) }
     ensures refused { (rule : AnyRule) (at : ℕ) → result ≡ Err (Refusal.Rule rule at)
         → IsFirstViolation source.now kernel.now rule at }
 {
     let typed = typed_tree(alloc, source)?;
     match kernel_number(&typed, kernel) {
-        Some(kernel) => Ok(WantedKernel { typed, kernel }),
+        Some(kernel) => with_kinds(alloc, typed, kernel),
         None => Err(Refusal::Rule {
             rule: SourceRule::K1,
             at: 0,
         }),
+    }
+}
+
+/// The typed tree and the number of the kernel, with the kinds of its parameters.
+fn with_kinds(alloc: Global, typed: Typed, kernel: u32) -> Result<WantedKernel, Refusal>
+    ensures same { IfOk result (λ f. (f.typed.functions ≡ typed.functions) × (f.kernel ≡ kernel)) }
+    ensures kinds { IfOk result (λ f. f.kinds.items ≡ kinds_at_number f.typed.functions f.kernel) }
+    ensures err { IfErr result (λ e. e ≡ Refusal.Memory) }
+{
+    match kinds_at(alloc, &typed, kernel) {
+        Ok(kinds) => Ok(WantedKernel {
+            typed,
+            kernel,
+            kinds,
+        }),
+        Err(_) => Err(Refusal::Memory),
     }
 }

@@ -5,13 +5,13 @@ use Rattle.q_io.specs.SinkMeaning.{SinkState, PutsAll}
 use Rattle.q_io.specs.declared.Put.{Put}
 use Rattle.q_io.specs.declared.Put.TheVariants.{Done as WasPut, Failed as PutFailed, Memory as PutShort}
 use Rattle.commands.specs.Lines.{Says, SaysTrouble, status_after}
-use Rattle.commands.specs.Plan.{Plan, reads, writes, compiles, commits, answers, Answer, done, refused, bad_module, bad_launch, broken, unfinished, status_of, Ends, ReadTrouble, WriteTrouble}
+use Rattle.commands.specs.Plan.{Plan, reads, writes, makes, commits, answers, Answer, done, refused, bad_module, bad_launch, broken, unfinished, not_safe, status_of, Ends, ReadTrouble, WriteTrouble}
 use Rattle.commands.proofs.Causes.{EndCause}
 use Rattle.commands.specs.declared.status.Status.{Status}
 use Rattle.commands.specs.declared.status.Status.TheVariants.{Done, Memory, Usage, ReadFault, WriteFault, Missing, TooLong, Refused, BadModule, BadLaunch, Broken, Unfinished, NotSafe}
 use Rattle.commands.specs.declared.places.Trouble.{Trouble}
 use Rattle.commands.specs.declared.places.Trouble.TheVariants.{Missing as IsMissing, TooLong as IsTooLong, ReadFault as IsReadFault, WriteFault as IsWriteFault, Memory as IsMemory}
-use Rattle.promise.specs.Language.{Language}
+use Rattle.promise.specs.Language.{Sources}
 
 -- what rose in a part of the run rose in the whole
 earlier : (asks : Bool) (first before now : FilesState) (out_before out_now : SinkState) (status : Status) → FilesCountsStay first before → EndCause asks before out_before now out_now status → EndCause asks first out_before now out_now status
@@ -55,6 +55,7 @@ answer_caused asks before now out_before out_now bad_module = tt
 answer_caused asks before now out_before out_now bad_launch = tt
 answer_caused asks before now out_before out_now broken = tt
 answer_caused asks before now out_before out_now unfinished = tt
+answer_caused asks before now out_before out_now not_safe = tt
 
 put_caused : (asks : Bool) (before now : FilesState) (out_before out_now : SinkState) (line : List ℕ) (status : Status) (put : Put) → PutsAll out_before out_now line put → EndCause asks before out_before now out_now status → EndCause asks before out_before now out_now (status_after put status)
 put_caused asks before now out_before out_now line status WasPut taken c = c
@@ -84,22 +85,22 @@ write_caused asks before now out_before out_now name IsMemory result c says = su
 gave_up : (asks : Bool) (before now : FilesState) (out_before out_now : SinkState) (result : Status) → asks ≡ true → result ≡ Memory → out_now ≡ out_before → EndCause asks before out_before now out_now result
 gave_up asks before now out_before out_now result may e same = subst (λ s. EndCause asks before out_before now out_now s) (sym e) (inl (may, same))
 
-pub ends_caused : (language : Language) (asks : Bool) (plan : Plan) (before : FilesState) (out_before : SinkState) (now : FilesState) (out_now : SinkState) (result : Status) → Ends language asks plan before out_before now out_now result → EndCause asks before out_before now out_now result
-ends_caused language asks (reads name limit next) before out_before now out_now result (inl h) = gave_up asks before now out_before out_now result h.may h.is h.out
-ends_caused language asks (reads name limit next) before out_before now out_now result (inr (inl h)) =
+pub ends_caused : (sources : Sources) (asks : Bool) (plan : Plan) (before : FilesState) (out_before : SinkState) (now : FilesState) (out_now : SinkState) (result : Status) → Ends sources asks plan before out_before now out_now result → EndCause asks before out_before now out_now result
+ends_caused sources asks (reads name limit next) before out_before now out_now result (inl h) = gave_up asks before now out_before out_now result h.may h.is h.out
+ends_caused sources asks (reads name limit next) before out_before now out_now result (inr (inl h)) =
     read_caused asks before now out_before out_now name limit h.trouble result h.cause h.says
-ends_caused language asks (reads name limit next) before out_before now out_now result (inr (inr h)) =
-    earlier asks before h.1 now out_before out_now result h.2.counts (ends_caused language asks (next h.0) h.1 out_before now out_now result h.3)
-ends_caused language asks (writes name bytes next) before out_before now out_now result (inl h) = gave_up asks before now out_before out_now result h.may h.is h.out
-ends_caused language asks (writes name bytes next) before out_before now out_now result (inr (inl h)) =
+ends_caused sources asks (reads name limit next) before out_before now out_now result (inr (inr h)) =
+    earlier asks before h.1 now out_before out_now result h.2.counts (ends_caused sources asks (next h.0) h.1 out_before now out_now result h.3)
+ends_caused sources asks (writes name bytes next) before out_before now out_now result (inl h) = gave_up asks before now out_before out_now result h.may h.is h.out
+ends_caused sources asks (writes name bytes next) before out_before now out_now result (inr (inl h)) =
     write_caused asks before now out_before out_now name h.trouble result h.cause h.says
-ends_caused language asks (writes name bytes next) before out_before now out_now result (inr (inr h)) =
-    earlier asks before h.0 now out_before out_now result h.1.counts (ends_caused language asks next h.0 out_before now out_now result h.2)
-ends_caused language asks (compiles source kernel next) before out_before now out_now result (inl h) = gave_up asks before now out_before out_now result h.may h.is h.out
-ends_caused language asks (compiles source kernel next) before out_before now out_now result (inr h) = ends_caused language asks (next h.0) before out_before now out_now result h.2
-ends_caused language asks (commits next) before out_before now out_now result (inl h) = gave_up asks before now out_before out_now result h.may h.is h.out
-ends_caused language asks (commits next) before out_before now out_now result (inr h) =
-    no_longer_asks asks before now out_before out_now result (ends_caused language false next before out_before now out_now result h)
-ends_caused language asks (answers answer line) before out_before now out_now result (inl h) = gave_up asks before now out_before out_now result h.may h.is h.out
-ends_caused language asks (answers answer line) before out_before now out_now result (inr h) =
+ends_caused sources asks (writes name bytes next) before out_before now out_now result (inr (inr h)) =
+    earlier asks before h.0 now out_before out_now result h.1.counts (ends_caused sources asks next h.0 out_before now out_now result h.2)
+ends_caused sources asks (makes wanted next) before out_before now out_now result (inl h) = gave_up asks before now out_before out_now result h.may h.is h.out
+ends_caused sources asks (makes wanted next) before out_before now out_now result (inr h) = ends_caused sources asks (next h.0) before out_before now out_now result h.2
+ends_caused sources asks (commits next) before out_before now out_now result (inl h) = gave_up asks before now out_before out_now result h.may h.is h.out
+ends_caused sources asks (commits next) before out_before now out_now result (inr h) =
+    no_longer_asks asks before now out_before out_now result (ends_caused sources false next before out_before now out_now result h)
+ends_caused sources asks (answers answer line) before out_before now out_now result (inl h) = gave_up asks before now out_before out_now result h.may h.is h.out
+ends_caused sources asks (answers answer line) before out_before now out_now result (inr h) =
     says_caused asks before now out_before out_now _ _ result h.1 (answer_caused asks before now out_before out_now answer)

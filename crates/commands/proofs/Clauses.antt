@@ -7,8 +7,8 @@ use Rattle.q_io.specs.SinkMeaning.{SinkState, PutsAll}
 use Rattle.q_io.specs.declared.Put.{Put}
 use Rattle.q_io.specs.declared.Put.TheVariants.{Done as WasPut, Failed as PutFailed, Memory as PutShort}
 use Rattle.commands.specs.Lines.{Says, SaysTrouble, status_after}
-use Rattle.commands.specs.Plan.{Compilation, Plan, reads, writes, compiles, commits, answers, Ends}
-use Rattle.commands.specs.Due.{Place, read, write, compile, commit, Due, then_due, EndsAsDue, EndsAsMade, AnswersAsMade, OnlyWritesMade, StoppedAt, IsQuiet, OnlyWrites, name_of, after, spares, due_of}
+use Rattle.commands.specs.Plan.{Plan, reads, writes, makes, commits, answers, Ends}
+use Rattle.commands.specs.Due.{Place, read, write, make, commit, Due, Made, then_due, EndsAsDue, EndsAsMade, AnswersAsMade, OnlyWritesMade, StoppedAt, IsQuiet, OnlyWrites, name_of, after, spares, due_of}
 use Rattle.launch_file.specs.declared.launch.BufferLine.{BufferLine}
 use Rattle.launch_file.specs.Launches.{LaunchOf}
 use Rattle.qpu_machine.specs.MachineState.{MachineState}
@@ -22,22 +22,22 @@ use Rattle.commands.proofs.Caused.{ends_caused}
 use Rattle.commands.specs.declared.status.Status.{Status}
 use Rattle.commands.specs.declared.status.Status.TheVariants.{Memory, Usage, ReadFault, WriteFault, Missing, TooLong}
 use Rattle.commands.specs.declared.places.Trouble.{Trouble}
-use Rattle.promise.specs.Language.{Language}
+use Rattle.promise.specs.Language.{Sources}
 
 pub if_told : (told : Option Tree) (P : Tree → Type 0) → ((tree : Tree) → told ≡ Some tree → P tree) → IfSome told P
 if_told None P h = tt
 if_told (Some tree) P h = h tree refl
 
-runs_due_at : (language : Language) (plan : Option Plan) (tree : Tree) (before : FilesState) (out_before : SinkState) (now : FilesState) (out_now : SinkState) (result : Status)
-    → before.told ≡ Some tree → Runs language plan before out_before now out_now result
-    → EndsAsMade language true (due_for plan tree) tree before out_before now out_now result
-runs_due_at language None tree before out_before now out_now result told h = ([], tt, inl (record { files = ap (λ f. f.told) h.0 ∙ told; says = h.1 }))
-runs_due_at language (Some plan) tree before out_before now out_now result told h = ends_as_due language true plan tree before out_before now out_now result told h
+runs_due_at : (sources : Sources) (plan : Option Plan) (tree : Tree) (before : FilesState) (out_before : SinkState) (now : FilesState) (out_now : SinkState) (result : Status)
+    → before.told ≡ Some tree → Runs sources plan before out_before now out_now result
+    → EndsAsMade sources true (due_for plan tree) tree before out_before now out_now result
+runs_due_at sources None tree before out_before now out_now result told h = ([], tt, inl (record { files = ap (λ f. f.told) h.0 ∙ told; says = h.1 }))
+runs_due_at sources (Some plan) tree before out_before now out_now result told h = ends_as_due sources true plan tree before out_before now out_now result told h
 
-pub runs_due : (language : Language) (plan : Option Plan) (before : FilesState) (out_before : SinkState) (now : FilesState) (out_now : SinkState) (result : Status)
-    → Runs language plan before out_before now out_now result
-    → IfSome before.told (λ tree. EndsAsMade language true (due_for plan tree) tree before out_before now out_now result)
-runs_due language plan before out_before now out_now result h = if_told before.told _ (λ tree told. runs_due_at language plan tree before out_before now out_now result told h)
+pub runs_due : (sources : Sources) (plan : Option Plan) (before : FilesState) (out_before : SinkState) (now : FilesState) (out_now : SinkState) (result : Status)
+    → Runs sources plan before out_before now out_now result
+    → IfSome before.told (λ tree. EndsAsMade sources true (due_for plan tree) tree before out_before now out_now result)
+runs_due sources plan before out_before now out_now result h = if_told before.told _ (λ tree told. runs_due_at sources plan tree before out_before now out_now result told h)
 
 -- the status after a line where the sink has no fault
 put_quiet : (before now : SinkState) (line : List ℕ) (status : Status) (put : Put) → ¬ (Rose before.faults now.faults) → PutsAll before now line put → (status_after put status ≡ status) ⊎ (status_after put status ≡ Memory)
@@ -55,7 +55,7 @@ fault_quiet (read place_name) tree before now out_before out_now name trouble re
     elim h.1 [ inl rose ↦ absurd (q.reads rose.1) | inr short ↦ (subst (λ t. SaysTrouble out_before out_now t name result) short.0 says).1 ]
 fault_quiet (write place_name bytes) tree before now out_before out_now name trouble result q h says =
     elim h.1 [ inl rose ↦ absurd (q.writes rose.1) | inr short ↦ (subst (λ t. SaysTrouble out_before out_now t name result) short.0 says).1 ]
-fault_quiet (compile source kernel made) tree before now out_before out_now name trouble result q h says = absurd h
+fault_quiet (make wanted made) tree before now out_before out_now name trouble result q h says = absurd h
 fault_quiet commit tree before now out_before out_now name trouble result q h says = absurd h
 
 due_quiet : (asks : Bool) (due : Due) (tree : Tree) (before : FilesState) (out_before : SinkState) (now : FilesState) (out_now : SinkState) (result : Status)
@@ -64,19 +64,19 @@ due_quiet asks due tree before out_before now out_now result (inl h) q = says_qu
 due_quiet asks due tree before out_before now out_now result (inr (inl h)) q = inr (fault_quiet h.place _ before now out_before out_now (name_of h.place) h.trouble result q h.stopped h.says)
 due_quiet asks due tree before out_before now out_now result (inr (inr h)) q = inr h.is
 
-pub runs_quiet : (language : Language) (plan : Option Plan) (before : FilesState) (out_before : SinkState) (now : FilesState) (out_now : SinkState) (result : Status)
-    → Runs language plan before out_before now out_now result
-    → IfSome before.told (λ tree. IsQuiet before out_before now out_now → AnswersAsMade language (due_for plan tree) result)
-runs_quiet language plan before out_before now out_now result h =
+pub runs_quiet : (sources : Sources) (plan : Option Plan) (before : FilesState) (out_before : SinkState) (now : FilesState) (out_now : SinkState) (result : Status)
+    → Runs sources plan before out_before now out_now result
+    → IfSome before.told (λ tree. IsQuiet before out_before now out_now → AnswersAsMade sources (due_for plan tree) result)
+runs_quiet sources plan before out_before now out_now result h =
     if_told before.told _ (λ tree told quiet.
-    let ends = runs_due_at language plan tree before out_before now out_now result told h in
+    let ends = runs_due_at sources plan tree before out_before now out_now result told h in
     (ends.0, ends.1, due_quiet true (due_for plan tree ends.0) tree before out_before now out_now result ends.2 quiet))
 
 -- Usage only where the words are of no form
-pub runs_usage : (language : Language) (plan : Option Plan) (before : FilesState) (out_before : SinkState) (now : FilesState) (out_now : SinkState) (result : Status) → Runs language plan before out_before now out_now result → result ≡ Usage → plan ≡ None
-runs_usage language None before out_before now out_now result h e = refl
-runs_usage language (Some plan) before out_before now out_now result h e =
-    absurd (subst (λ s. EndCause true before out_before now out_now s) e (ends_caused language true plan before out_before now out_now result h))
+pub runs_usage : (sources : Sources) (plan : Option Plan) (before : FilesState) (out_before : SinkState) (now : FilesState) (out_now : SinkState) (result : Status) → Runs sources plan before out_before now out_now result → result ≡ Usage → plan ≡ None
+runs_usage sources None before out_before now out_now result h e = refl
+runs_usage sources (Some plan) before out_before now out_now result h e =
+    absurd (subst (λ s. EndCause true before out_before now out_now s) e (ends_caused sources true plan before out_before now out_now result h))
 
 -- the cause of each status but Usage
 usage_caused : (before now : FilesState) (out_before out_now : SinkState) (line : List ℕ) (put : Put) (P : Status → Type 0) → P Usage → (Rose out_before.shortages out_now.shortages → P Memory) → (Rose out_before.faults out_now.faults → P WriteFault) → PutsAll out_before out_now line put → P (status_after put Usage)
@@ -132,16 +132,16 @@ fault_known before out_before now out_now rose = record {
   too_long = λ e. absurd (cc);
 }
 
-pub runs_caused : (language : Language) (plan : Option Plan) (before : FilesState) (out_before : SinkState) (now : FilesState) (out_now : SinkState) (result : Status) → Runs language plan before out_before now out_now result → Caused before out_before now out_now result
-runs_caused language None before out_before now out_now result h =
+pub runs_caused : (sources : Sources) (plan : Option Plan) (before : FilesState) (out_before : SinkState) (now : FilesState) (out_now : SinkState) (result : Status) → Runs sources plan before out_before now out_now result → Caused before out_before now out_now result
+runs_caused sources None before out_before now out_now result h =
     subst (λ s. Caused before out_before now out_now s) (sym h.1.is)
     (usage_caused before now out_before out_now usage_line h.1.put (λ s. Caused before out_before now out_now s) (usage_known before out_before now out_now) (short_known before out_before now out_now) (fault_known before out_before now out_now) h.1.taken)
-runs_caused language (Some plan) before out_before now out_now result h = cause_known before out_before now out_now result (ends_caused language true plan before out_before now out_now result h)
+runs_caused sources (Some plan) before out_before now out_now result h = cause_known before out_before now out_now result (ends_caused sources true plan before out_before now out_now result h)
 
 -- words of no form
-pub runs_no_form : (language : Language) (plan : Option Plan) (before : FilesState) (out_before : SinkState) (now : FilesState) (out_now : SinkState) (result : Status)
-    → Runs language plan before out_before now out_now result → plan ≡ None → (now ≡ before) × Says out_before out_now usage_line Usage result
-runs_no_form language plan before out_before now out_now result h e = subst (λ p. Runs language p before out_before now out_now result) e h
+pub runs_no_form : (sources : Sources) (plan : Option Plan) (before : FilesState) (out_before : SinkState) (now : FilesState) (out_now : SinkState) (result : Status)
+    → Runs sources plan before out_before now out_now result → plan ≡ None → (now ≡ before) × Says out_before out_now usage_line Usage result
+runs_no_form sources plan before out_before now out_now result h e = subst (λ p. Runs sources p before out_before now out_now result) e h
 
 -- a file that these places spare is the same after them
 spares_same : (content : Option (List ℕ)) (name other : List ℕ) (places : List Place) (tree : Tree)
@@ -165,7 +165,7 @@ after_spares [] tree name h = refl
 after_spares (read other ∷ places) tree name h = after_spares places tree name h
 after_spares (write other bytes ∷ places) tree name h =
     after_spares places (with_file other (Some bytes) tree) name (spares_rest (bytes_eq other name) (spares name places) h) ∙ spares_same (Some bytes) name other places tree h
-after_spares (compile source kernel made ∷ places) tree name h = after_spares places tree name h
+after_spares (make wanted made ∷ places) tree name h = after_spares places tree name h
 after_spares (commit ∷ places) tree name h = after_spares places tree name h
 
 -- what is spared by places is spared by the first of them
@@ -173,14 +173,14 @@ spares_first : (first rest : List Place) (name : List ℕ) → spares name (firs
 spares_first [] rest name h = refl
 spares_first (read other ∷ first) rest name h = spares_first first rest name h
 spares_first (write other bytes ∷ first) rest name h = spares_both (bytes_eq other name) _ _ (λ e. spares_first first rest name e) h
-spares_first (compile source kernel made ∷ first) rest name h = spares_first first rest name h
+spares_first (make wanted made ∷ first) rest name h = spares_first first rest name h
 spares_first (commit ∷ first) rest name h = spares_first first rest name h
 
 spares_last : (first rest : List Place) (name : List ℕ) → spares name (first ++ rest) ≡ true → spares name rest ≡ true
 spares_last [] rest name h = h
 spares_last (read other ∷ first) rest name h = spares_last first rest name h
 spares_last (write other bytes ∷ first) rest name h = spares_last first rest name (spares_rest (bytes_eq other name) (spares name (first ++ rest)) h)
-spares_last (compile source kernel made ∷ first) rest name h = spares_last first rest name h
+spares_last (make wanted made ∷ first) rest name h = spares_last first rest name h
 spares_last (commit ∷ first) rest name h = spares_last first rest name h
 
 stopped_spares : (place : Place) (passed rest : List Place) (tree : Tree) (before now : FilesState) (trouble : Trouble)
@@ -195,7 +195,7 @@ stopped_spares (write other bytes) passed rest tree before now trouble h = recor
   told = h.0.1;
   others = λ name spared. spares_same h.0.0 name other rest (after passed tree) (spares_last passed _ name spared) ∙ after_spares passed tree name (spares_first passed _ name spared);
 }
-stopped_spares (compile source kernel made) passed rest tree before now trouble h = absurd h
+stopped_spares (make wanted made) passed rest tree before now trouble h = absurd h
 stopped_spares commit passed rest tree before now trouble h = absurd h
 
 due_files : (asks : Bool) (due : Due) (tree : Tree) (before : FilesState) (out_before : SinkState) (now : FilesState) (out_now : SinkState) (result : Status)
@@ -210,28 +210,28 @@ due_files asks due tree before out_before now out_now result (inr (inr h)) = rec
 }
 
 -- only the files that are due to be written may change
-pub runs_files : (language : Language) (plan : Option Plan) (before : FilesState) (out_before : SinkState) (now : FilesState) (out_now : SinkState) (result : Status)
-    → Runs language plan before out_before now out_now result
-    → IfSome before.told (λ tree. OnlyWritesMade language (due_for plan tree) tree now)
-runs_files language plan before out_before now out_now result h =
+pub runs_files : (sources : Sources) (plan : Option Plan) (before : FilesState) (out_before : SinkState) (now : FilesState) (out_now : SinkState) (result : Status)
+    → Runs sources plan before out_before now out_now result
+    → IfSome before.told (λ tree. OnlyWritesMade sources (due_for plan tree) tree now)
+runs_files sources plan before out_before now out_now result h =
     if_told before.told _ (λ tree told.
-    let ends = runs_due_at language plan tree before out_before now out_now result told h in
+    let ends = runs_due_at sources plan tree before out_before now out_now result told h in
     (ends.0, ends.1, due_files true (due_for plan tree ends.0) tree before out_before now out_now result ends.2))
 
 -- a plan that only writes
 pub Stores : Plan → Type 0
 Stores (reads name limit next) = ⊥
 Stores (writes name bytes next) = Stores next
-Stores (compiles source kernel next) = ⊥
+Stores (makes wanted next) = ⊥
 Stores (commits next) = Stores next
 Stores (answers answer line) = ⊤
 
--- it compiles nothing
-stores_due : (plan : Plan) (tree : Tree) (all : List Compilation) → Stores plan → due_of plan tree all ≡ due_of plan tree []
+-- it makes nothing
+stores_due : (plan : Plan) (tree : Tree) (all : List Made) → Stores plan → due_of plan tree all ≡ due_of plan tree []
 unfolding Stores
 stores_due (reads name limit next) tree all h = absurd h
 stores_due (writes name bytes next) tree all h = ap (then_due (write name bytes)) (stores_due next (with_file name (Some bytes) tree) all h)
-stores_due (compiles source kernel next) tree all h = absurd h
+stores_due (makes wanted next) tree all h = absurd h
 stores_due (commits next) tree all h = ap (then_due commit) (stores_due next tree all h)
 stores_due (answers answer line) tree all h = refl
 
@@ -249,12 +249,12 @@ play_stores : (s : MachineState) (launch : LaunchOf) (file : List ℕ) → Store
 unfolding Stores play_plan report_plan
 play_stores s launch file = writes_store launch.buffers (buffers_of (ran s launch.schedule file)) (report_plan (ran s launch.schedule file)) tt
 
-pub play_due : (language : Language) (s : MachineState) (launch : LaunchOf) (file : List ℕ) (before : FilesState) (out_before : SinkState) (now : FilesState) (out_now : SinkState) (result : Status)
-    → Ends language false (play_plan s launch file) before out_before now out_now result
+pub play_due : (sources : Sources) (s : MachineState) (launch : LaunchOf) (file : List ℕ) (before : FilesState) (out_before : SinkState) (now : FilesState) (out_now : SinkState) (result : Status)
+    → Ends sources false (play_plan s launch file) before out_before now out_now result
     → IfSome before.told (λ tree. EndsAsDue false (due_of (play_plan s launch file) tree []) tree before out_before now out_now result)
-play_due language s launch file before out_before now out_now result h =
+play_due sources s launch file before out_before now out_now result h =
     if_told before.told _ (λ tree told.
-    let ends = ends_as_due language false (play_plan s launch file) tree before out_before now out_now result told h in
+    let ends = ends_as_due sources false (play_plan s launch file) tree before out_before now out_now result told h in
     subst (λ due. EndsAsDue false due tree before out_before now out_now result) (stores_due (play_plan s launch file) tree ends.0 (play_stores s launch file)) ends.2)
 
 pub record PlayCaused (before : FilesState) (out_before : SinkState) (now : FilesState) (out_now : SinkState) (result : Status) : Type 0 where
@@ -265,9 +265,9 @@ no_asking : (A B : Type 0) → ((false ≡ true) × A) ⊎ B → B
 no_asking A B (inl h) = absurd (let no : false ≡ true = h.0 in cc)
 no_asking A B (inr b) = b
 
-pub play_caused : (language : Language) (plan : Plan) (before : FilesState) (out_before : SinkState) (now : FilesState) (out_now : SinkState) (result : Status)
-    → Ends language false plan before out_before now out_now result → PlayCaused before out_before now out_now result
-play_caused language plan before out_before now out_now result h = record {
-  memory = λ e. no_asking _ _ (subst (λ s. EndCause false before out_before now out_now s) e (ends_caused language false plan before out_before now out_now result h));
-  write_fault = λ e. subst (λ s. EndCause false before out_before now out_now s) e (ends_caused language false plan before out_before now out_now result h);
+pub play_caused : (sources : Sources) (plan : Plan) (before : FilesState) (out_before : SinkState) (now : FilesState) (out_now : SinkState) (result : Status)
+    → Ends sources false plan before out_before now out_now result → PlayCaused before out_before now out_now result
+play_caused sources plan before out_before now out_now result h = record {
+  memory = λ e. no_asking _ _ (subst (λ s. EndCause false before out_before now out_now s) e (ends_caused sources false plan before out_before now out_now result h));
+  write_fault = λ e. subst (λ s. EndCause false before out_before now out_now s) e (ends_caused sources false plan before out_before now out_now result h);
 }

@@ -4,12 +4,12 @@ use Rattle.std.specs.Prelude.{Option, Some, None, IfSome, option_map, nat_le}
 use Rattle.q_io.specs.FilesMeaning.{Tree, with_file, FilesState, FilesCountsStay}
 use Rattle.q_io.specs.SinkMeaning.{SinkState}
 use Rattle.commands.specs.Lines.{SaysTrouble}
-use Rattle.commands.specs.Plan.{Compilation, Plan, reads, writes, compiles, commits, answers, Ends, GivesUp, StopsAtWrite, ReadTrouble, WriteTrouble}
-use Rattle.commands.specs.Due.{Place, read, write, compile, commit, Due, then_due, trouble_due, due_read, due_of, AreMade, StoppedAt, EndsAsDue, EndsAsMade}
+use Rattle.commands.specs.Plan.{Wanted, a_module, a_meaning, a_verdict, MadeOf, Plan, reads, writes, makes, commits, answers, Ends, GivesUp, StopsAtWrite, ReadTrouble, WriteTrouble}
+use Rattle.commands.specs.Due.{Place, read, write, make, commit, Due, then_due, trouble_due, due_read, Made, module_made, meaning_made, verdict_made, made_for, due_made, due_of, AreMade, StoppedAt, EndsAsDue, EndsAsMade}
 use Rattle.commands.specs.declared.status.Status.{Status}
 use Rattle.commands.specs.declared.places.Trouble.{Trouble}
 use Rattle.commands.specs.declared.places.Trouble.TheVariants.{Missing as IsMissing, TooLong as IsTooLong, ReadFault as IsReadFault, WriteFault as IsWriteFault, Memory as IsMemory}
-use Rattle.promise.specs.Language.{Language}
+use Rattle.promise.specs.Language.{Sources}
 
 pub told_at : (told : Option Tree) (tree : Tree) (P : Tree → Type 0) → told ≡ Some tree → IfSome told P → P tree
 told_at told tree P e h = subst (λ t. IfSome t P) e h
@@ -20,7 +20,7 @@ earlier_fault (read name) tree first before now trouble counts stopped =
     (stopped.0, elim stopped.1 [ inl h ↦ inl (h.0, omega (arith, h.1)) | inr h ↦ inr (h.0, omega (arith, h.1)) ])
 earlier_fault (write name bytes) tree first before now trouble counts stopped =
     (stopped.0, elim stopped.1 [ inl h ↦ inl (h.0, omega (arith, h.1)) | inr h ↦ inr (h.0, omega (arith, h.1)) ])
-earlier_fault (compile source kernel made) tree first before now trouble counts stopped = stopped
+earlier_fault (make wanted made) tree first before now trouble counts stopped = stopped
 earlier_fault commit tree first before now trouble counts stopped = stopped
 
 passes_read : (asks : Bool) (name : List ℕ) (due : Due) (tree : Tree) (first before now : FilesState) (out_before out_now : SinkState) (result : Status)
@@ -77,27 +77,27 @@ passes_write asks name bytes due tree first before now out_before out_now result
       out = h.out;
     }))
 
-passes_compile : (asks : Bool) (source kernel : List ℕ) (made : Compilation) (due : Due) (tree : Tree) (before now : FilesState) (out_before out_now : SinkState) (result : Status)
+passes_make : (asks : Bool) (wanted : Wanted) (made : MadeOf wanted) (due : Due) (tree : Tree) (before now : FilesState) (out_before out_now : SinkState) (result : Status)
     → EndsAsDue asks due tree before out_before now out_now result
-    → EndsAsDue asks (then_due (compile source kernel made) due) tree before out_before now out_now result
-passes_compile asks source kernel made due tree before now out_before out_now result (inl h) = inl (record { files = h.files; says = h.says })
-passes_compile asks source kernel made due tree before now out_before out_now result (inr (inl h)) =
+    → EndsAsDue asks (then_due (make wanted made) due) tree before out_before now out_now result
+passes_make asks wanted made due tree before now out_before out_now result (inl h) = inl (record { files = h.files; says = h.says })
+passes_make asks wanted made due tree before now out_before out_now result (inr (inl h)) =
     inr (inl (record {
-      passed = compile source kernel made ∷ h.passed;
+      passed = make wanted made ∷ h.passed;
       place = h.place;
       rest = h.rest;
-      order = ap (λ ps. compile source kernel made ∷ ps) h.order;
+      order = ap (λ ps. make wanted made ∷ ps) h.order;
       trouble = h.trouble;
       stopped = h.stopped;
       says = h.says;
     }))
-passes_compile asks source kernel made due tree before now out_before out_now result (inr (inr h)) =
+passes_make asks wanted made due tree before now out_before out_now result (inr (inr h)) =
     inr (inr (record {
       may = h.may;
       is = h.is;
-      passed = compile source kernel made ∷ h.passed;
+      passed = make wanted made ∷ h.passed;
       rest = h.rest;
-      order = ap (λ ps. compile source kernel made ∷ ps) h.order;
+      order = ap (λ ps. make wanted made ∷ ps) h.order;
       no_step = h.no_step;
       files = h.files;
       out = h.out;
@@ -221,65 +221,84 @@ stops_at_write asks name bytes due tree before now out_before out_now result tol
       says = stop.says;
     }))
 
--- where nothing is made, no place compiles
-read_none_made : (language : Language) (name : List ℕ) (limit : ℕ) (content : Option (List ℕ)) (next : List ℕ → Due) → ((bytes : List ℕ) → AreMade language (next bytes).places) → AreMade language (due_read name limit content next).places
-read_none_made language name limit None next h = tt
-read_none_made language name limit (Some bytes) next h =
-    elim (nat_le (length bytes) limit) as (λ b. AreMade language (cond b (then_due (read name) (next bytes)) (trouble_due IsTooLong name)).places) [ true ↦ h bytes | false ↦ tt ]
+-- where nothing is made, no place makes anything
+read_none_made : (sources : Sources) (name : List ℕ) (limit : ℕ) (content : Option (List ℕ)) (next : List ℕ → Due) → ((bytes : List ℕ) → AreMade sources (next bytes).places) → AreMade sources (due_read name limit content next).places
+read_none_made sources name limit None next h = tt
+read_none_made sources name limit (Some bytes) next h =
+    elim (nat_le (length bytes) limit) as (λ b. AreMade sources (cond b (then_due (read name) (next bytes)) (trouble_due IsTooLong name)).places) [ true ↦ h bytes | false ↦ tt ]
 
-none_made : (language : Language) (plan : Plan) (tree : Tree) → AreMade language (due_of plan tree []).places
-none_made language (reads name limit next) tree = read_none_made language name limit (tree name) _ (λ bytes. none_made language (next bytes) tree)
-none_made language (writes name bytes next) tree = none_made language next (with_file name (Some bytes) tree)
-none_made language (compiles source kernel next) tree = tt
-none_made language (commits next) tree = none_made language next tree
-none_made language (answers answer line) tree = tt
+none_made : (sources : Sources) (plan : Plan) (tree : Tree) → AreMade sources (due_of plan tree []).places
+none_made sources (reads name limit next) tree = read_none_made sources name limit (tree name) _ (λ bytes. none_made sources (next bytes) tree)
+none_made sources (writes name bytes next) tree = none_made sources next (with_file name (Some bytes) tree)
+none_made sources (makes wanted next) tree = tt
+none_made sources (commits next) tree = none_made sources next tree
+none_made sources (answers answer line) tree = tt
 
--- a run that stops before anything is made of a source
-stops : (language : Language) (asks : Bool) (plan : Plan) (tree : Tree) (before : FilesState) (out_before : SinkState) (now : FilesState) (out_now : SinkState) (result : Status)
+-- what was made, as one of those that are made
+made_as : (wanted : Wanted) → MadeOf wanted → Made
+made_as (a_module source kernel) made = module_made made
+made_as (a_meaning source kernel) made = meaning_made made
+made_as (a_verdict item items buffers turns) made = verdict_made made
+
+made_back : (wanted : Wanted) (made : MadeOf wanted) → made_for wanted (made_as wanted made) ≡ Some made
+unfolding made_as
+made_back (a_module source kernel) made = refl
+made_back (a_meaning source kernel) made = refl
+made_back (a_verdict item items buffers turns) made = refl
+
+-- a run that stops before anything is made
+stops : (sources : Sources) (asks : Bool) (plan : Plan) (tree : Tree) (before : FilesState) (out_before : SinkState) (now : FilesState) (out_now : SinkState) (result : Status)
     → EndsAsDue asks (due_of plan tree []) tree before out_before now out_now result
-    → EndsAsMade language asks (due_of plan tree) tree before out_before now out_now result
-stops language asks plan tree before out_before now out_now result h = ([], none_made language plan tree, h)
+    → EndsAsMade sources asks (due_of plan tree) tree before out_before now out_now result
+stops sources asks plan tree before out_before now out_now result h = ([], none_made sources plan tree, h)
 
-pub ends_as_due : (language : Language) (asks : Bool) (plan : Plan) (tree : Tree) (before : FilesState) (out_before : SinkState) (now : FilesState) (out_now : SinkState) (result : Status)
+pub ends_as_due : (sources : Sources) (asks : Bool) (plan : Plan) (tree : Tree) (before : FilesState) (out_before : SinkState) (now : FilesState) (out_now : SinkState) (result : Status)
     → before.told ≡ Some tree
-    → Ends language asks plan before out_before now out_now result
-    → EndsAsMade language asks (due_of plan tree) tree before out_before now out_now result
-ends_as_due language asks (reads name limit next) tree before out_before now out_now result told (inl h) =
-    stops language asks (reads name limit next) tree before out_before now out_now result (gives_up asks _ tree before now out_before out_now result told h)
-ends_as_due language asks (reads name limit next) tree before out_before now out_now result told (inr (inl h)) =
-    stops language asks (reads name limit next) tree before out_before now out_now result (stops_at_read asks name limit _ tree before now out_before out_now result told h.files h.trouble h.cause h.says)
-ends_as_due language asks (reads name limit next) tree before out_before now out_now result told (inr (inr h)) =
+    → Ends sources asks plan before out_before now out_now result
+    → EndsAsMade sources asks (due_of plan tree) tree before out_before now out_now result
+ends_as_due sources asks (reads name limit next) tree before out_before now out_now result told (inl h) =
+    stops sources asks (reads name limit next) tree before out_before now out_now result (gives_up asks _ tree before now out_before out_now result told h)
+ends_as_due sources asks (reads name limit next) tree before out_before now out_now result told (inr (inl h)) =
+    stops sources asks (reads name limit next) tree before out_before now out_now result (stops_at_read asks name limit _ tree before now out_before out_now result told h.files h.trouble h.cause h.says)
+ends_as_due sources asks (reads name limit next) tree before out_before now out_now result told (inr (inr h)) =
     let bytes = h.0 in
     let mid = h.1 in
     let has_read = h.2 in
     let is : tree name ≡ Some bytes = told_at before.told tree (λ t. t name ≡ Some bytes) told has_read.holds in
-    let rest = ends_as_due language asks (next bytes) tree mid out_before now out_now result (has_read.files ∙ told) h.3 in
-    let all : List Compilation = rest.0 in
+    let rest = ends_as_due sources asks (next bytes) tree mid out_before now out_now result (has_read.files ∙ told) h.3 in
+    let all : List Made = rest.0 in
     let found = due_found name limit (tree name) bytes (λ b. due_of (next b) tree all) is has_read.fits in (
       all,
-      subst (λ d. AreMade language d.places) (sym found) rest.1,
+      subst (λ d. AreMade sources d.places) (sym found) rest.1,
       subst (λ d. EndsAsDue asks d tree before out_before now out_now result) (sym found) (passes_read asks name _ tree before mid now out_before out_now result has_read.counts rest.2),
     )
-ends_as_due language asks (writes name bytes next) tree before out_before now out_now result told (inl h) =
-    stops language asks (writes name bytes next) tree before out_before now out_now result (gives_up asks _ tree before now out_before out_now result told h)
-ends_as_due language asks (writes name bytes next) tree before out_before now out_now result told (inr (inl h)) =
-    stops language asks (writes name bytes next) tree before out_before now out_now result (stops_at_write asks name bytes _ tree before now out_before out_now result told h)
-ends_as_due language asks (writes name bytes next) tree before out_before now out_now result told (inr (inr h)) =
+ends_as_due sources asks (writes name bytes next) tree before out_before now out_now result told (inl h) =
+    stops sources asks (writes name bytes next) tree before out_before now out_now result (gives_up asks _ tree before now out_before out_now result told h)
+ends_as_due sources asks (writes name bytes next) tree before out_before now out_now result told (inr (inl h)) =
+    stops sources asks (writes name bytes next) tree before out_before now out_now result (stops_at_write asks name bytes _ tree before now out_before out_now result told h)
+ends_as_due sources asks (writes name bytes next) tree before out_before now out_now result told (inr (inr h)) =
     let mid = h.0 in
     let written = h.1 in
-    let rest = ends_as_due language asks next (with_file name (Some bytes) tree) mid out_before now out_now result (written.files ∙ ap (option_map (with_file name (Some bytes))) told) h.2 in
+    let rest = ends_as_due sources asks next (with_file name (Some bytes) tree) mid out_before now out_now result (written.files ∙ ap (option_map (with_file name (Some bytes))) told) h.2 in
     (rest.0, rest.1, passes_write asks name bytes _ tree before mid now out_before out_now result written.counts rest.2)
-ends_as_due language asks (compiles source kernel next) tree before out_before now out_now result told (inl h) =
-    stops language asks (compiles source kernel next) tree before out_before now out_now result (gives_up asks _ tree before now out_before out_now result told h)
-ends_as_due language asks (compiles source kernel next) tree before out_before now out_now result told (inr h) =
-    let rest = ends_as_due language asks (next h.0) tree before out_before now out_now result told h.2 in
-    (h.0 ∷ rest.0, (h.1, rest.1), passes_compile asks source kernel h.0 _ tree before now out_before out_now result rest.2)
-ends_as_due language asks (commits next) tree before out_before now out_now result told (inl h) =
-    stops language asks (commits next) tree before out_before now out_now result (gives_up asks _ tree before now out_before out_now result told h)
-ends_as_due language asks (commits next) tree before out_before now out_now result told (inr h) =
-    let rest = ends_as_due language false next tree before out_before now out_now result told h in
+ends_as_due sources asks (makes wanted next) tree before out_before now out_now result told (inl h) =
+    stops sources asks (makes wanted next) tree before out_before now out_now result (gives_up asks _ tree before now out_before out_now result told h)
+ends_as_due sources asks (makes wanted next) tree before out_before now out_now result told (inr h) =
+    let rest = ends_as_due sources asks (next h.0) tree before out_before now out_now result told h.2 in
+    let all : List Made = rest.0 in
+    let due : Due = then_due (make wanted h.0) (due_of (next h.0) tree all) in
+    let is : due ≡ due_made wanted (made_for wanted (made_as wanted h.0)) (λ it. due_of (next it) tree all) =
+    sym (ap (λ made. due_made wanted made (λ it. due_of (next it) tree all)) (made_back wanted h.0)) in (
+      made_as wanted h.0 ∷ all,
+      subst (λ d. AreMade sources d.places) is (h.1, rest.1),
+      subst (λ d. EndsAsDue asks d tree before out_before now out_now result) is (passes_make asks wanted h.0 _ tree before now out_before out_now result rest.2),
+    )
+ends_as_due sources asks (commits next) tree before out_before now out_now result told (inl h) =
+    stops sources asks (commits next) tree before out_before now out_now result (gives_up asks _ tree before now out_before out_now result told h)
+ends_as_due sources asks (commits next) tree before out_before now out_now result told (inr h) =
+    let rest = ends_as_due sources false next tree before out_before now out_now result told h in
     (rest.0, rest.1, passes_commit asks _ tree before now out_before out_now result rest.2)
-ends_as_due language asks (answers answer line) tree before out_before now out_now result told (inl h) =
-    stops language asks (answers answer line) tree before out_before now out_now result (gives_up asks _ tree before now out_before out_now result told h)
-ends_as_due language asks (answers answer line) tree before out_before now out_now result told (inr h) =
+ends_as_due sources asks (answers answer line) tree before out_before now out_now result told (inl h) =
+    stops sources asks (answers answer line) tree before out_before now out_now result (gives_up asks _ tree before now out_before out_now result told h)
+ends_as_due sources asks (answers answer line) tree before out_before now out_now result told (inr h) =
     ([], tt, inl (record { files = ap (λ f. f.told) h.0 ∙ told; says = h.1 }))

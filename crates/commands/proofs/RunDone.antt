@@ -21,8 +21,8 @@ use Rattle.qpu_machine.specs.declared.state.Step.{Step}
 use Rattle.qpu_machine.specs.declared.state.Stop.{Stop}
 use Rattle.qpu_machine.specs.declared.state.Stop.TheVariants as stop
 use Rattle.vpm_words.specs.declared.state.Rule.{Rule}
-use Rattle.promise.specs.ItemMeaning.{Kernel}
-use Rattle.promise.specs.LaunchMeaning.{IsSafe}
+use Rattle.launch_meaning.specs.LaunchMeaning.{IsSafe}
+use Rattle.promise.specs.Kernel.{Kernel}
 use Rattle.promise.specs.Openings.{Setting, IsSetting, opening_of}
 use Rattle.promise.specs.Faithful.{KeepsAll}
 use Rattle.commands.specs.Plan.{Compilation, IsCompilation, compiled, violated, Plan, Ends, WriteTrouble, status_of}
@@ -30,12 +30,12 @@ use Rattle.commands.specs.Lines.{Says}
 use Rattle.commands.specs.Buffers.{filled}
 use Rattle.commands.specs.Openings.{zero_setting, opening_for}
 use Rattle.commands.specs.Play.{answer_of, steps_of, ran}
-use Rattle.commands.specs.Exec.{launch_plan}
+use Rattle.commands.specs.Exec.{exec_launch_plan}
 use Rattle.commands.specs.Refusals.{refused_line}
 use Rattle.commands.specs.Compile.{source_limit, compiled_line, after_source, source_plan, store_plan, compile_plan, keep_plan, run_plan}
 use Rattle.commands.specs.ExecClauses.{IsRead, AreRead, stored, Executed}
 use Rattle.commands.specs.CompileClauses.{IsMade, RefusedSource, IsEarly, CompileAnswers, Ran, RunAnswers}
-use Rattle.commands.specs.Commands.{plan_of, are_apart, usage_line, Runs, IfCompile, IfRun}
+use Rattle.commands.specs.Commands.{plan_of, are_apart, judge_plan_of, usage_line, Runs, IfCompile, IfRun}
 use Rattle.commands.proofs.OpeningLaws.{zero_is_setting, fits_alone}
 use Rattle.commands.proofs.Spared.{ends_spare, launch_spares}
 use Rattle.commands.proofs.ExecDone.{IsOutside, says_cases, short_outside, says_outside, launch_end, LaunchAnswers, launch_answers}
@@ -43,10 +43,10 @@ use Rattle.commands.specs.declared.status.Status.{Status}
 use Rattle.commands.specs.declared.status.Status.TheVariants.{Done, Memory, Usage, ReadFault, WriteFault, Missing, TooLong, Refused, BadModule, BadLaunch, Broken, Unfinished, NotSafe}
 use Rattle.commands.specs.declared.places.Trouble.{Trouble}
 use Rattle.commands.specs.declared.places.Trouble.TheVariants.{Missing as IsMissing, TooLong as IsTooLong, ReadFault as IsReadFault, WriteFault as IsWriteFault, Memory as IsMemory}
-use Rattle.promise.specs.Language.{Language}
+use Rattle.promise.specs.Language.{Sources}
 use Rattle.promise.specs.Laws.{KernelsAreOne}
 
-outside_early : (result : Status) → IsOutside result → IsEarly result
+pub outside_early : (result : Status) → IsOutside result → IsEarly result
 unfolding IsOutside
 outside_early Memory h = tt
 outside_early ReadFault h = tt
@@ -62,7 +62,7 @@ outside_early Broken h = h
 outside_early Unfinished h = h
 outside_early NotSafe h = h
 
-outside_not : (result other : Status) → (IsOutside other → ⊥) → IsOutside result → result ≡ other → ⊥
+pub outside_not : (result other : Status) → (IsOutside other → ⊥) → IsOutside result → result ≡ other → ⊥
 outside_not result other never h e = never (subst IsOutside e h)
 
 not_done : IsOutside Done → ⊥
@@ -76,19 +76,19 @@ not_refused h = h
 -- ---- the source
 
 -- how a command ends that begins with a source
-data SourceEnd (language : Language) (source_name kernel : List ℕ) (next : ModuleOf → Plan) (before : FilesState) (out_before : SinkState) (now : FilesState) (out_now : SinkState) (result : Status) : Type 0 where
-  unmade : IsOutside result → now.told ≡ before.told → SourceEnd language source_name kernel next before out_before now out_now result
-  unlawful : result ≡ Refused → RefusedSource language source_name kernel before out_before now out_now → SourceEnd language source_name kernel next before out_before now out_now result
-  made : (source : List ℕ) (code : ModuleOf) (mid : FilesState) → FilesCountsStay before mid → mid.told ≡ before.told → IsMade language source_name kernel before source code → Ends language true (next code) mid out_before now out_now result
-      → SourceEnd language source_name kernel next before out_before now out_now result
+data SourceEnd (sources : Sources) (source_name kernel : List ℕ) (next : ModuleOf → Plan) (before : FilesState) (out_before : SinkState) (now : FilesState) (out_now : SinkState) (result : Status) : Type 0 where
+  unmade : IsOutside result → now.told ≡ before.told → SourceEnd sources source_name kernel next before out_before now out_now result
+  unlawful : result ≡ Refused → RefusedSource sources.compiled.violates_first source_name kernel before out_before now out_now → SourceEnd sources source_name kernel next before out_before now out_now result
+  made : (source : List ℕ) (code : ModuleOf) (mid : FilesState) → FilesCountsStay before mid → mid.told ≡ before.told → IsMade sources.compiled source_name kernel before source code → Ends sources true (next code) mid out_before now out_now result
+      → SourceEnd sources source_name kernel next before out_before now out_now result
 
-compiled_end : (language : Language) (kernels : KernelsAreOne language) (source_name kernel source : List ℕ) (all : Compilation) (next : ModuleOf → Plan) (before mid now : FilesState) (out_before out_now : SinkState) (result : Status)
-    → FilesCountsStay before mid → mid.told ≡ before.told → Holds before source_name source → length source ≤ source_limit → IsCompilation language source kernel all
-    → Ends language true (after_source source next all) mid out_before now out_now result → SourceEnd language source_name kernel next before out_before now out_now result
-compiled_end language kernels source_name kernel source (compiled code) next before mid now out_before out_now result counts same holds short is ends =
+compiled_end : (sources : Sources) (kernels : KernelsAreOne sources.compiled) (source_name kernel source : List ℕ) (all : Compilation) (next : ModuleOf → Plan) (before mid now : FilesState) (out_before out_now : SinkState) (result : Status)
+    → FilesCountsStay before mid → mid.told ≡ before.told → Holds before source_name source → length source ≤ source_limit → IsCompilation sources.compiled source kernel all
+    → Ends sources true (after_source source next all) mid out_before now out_now result → SourceEnd sources source_name kernel next before out_before now out_now result
+compiled_end sources kernels source_name kernel source (compiled code) next before mid now out_before out_now result counts same holds short is ends =
     made source code mid counts same (record { read = holds; short = short; in_profile = kernels.lawful source kernel is.1.kernel is.1.is_kernel; valid = is.0; faithful = is.1 }) ends
-compiled_end language kernels source_name kernel source (violated rule at) next before mid now out_before out_now result counts same holds short is (inl h) = unmade (short_outside result h.is) (ap (λ f. f.told) h.files ∙ same)
-compiled_end language kernels source_name kernel source (violated rule at) next before mid now out_before out_now result counts same holds short is (inr (kept, says)) =
+compiled_end sources kernels source_name kernel source (violated rule at) next before mid now out_before out_now result counts same holds short is (inl h) = unmade (short_outside result h.is) (ap (λ f. f.told) h.files ∙ same)
+compiled_end sources kernels source_name kernel source (violated rule at) next before mid now out_before out_now result counts same holds short is (inr (kept, says)) =
     elim (says_cases out_before out_now (refused_line source rule at) Refused result says) [
       | inl h ↦ unmade h (ap (λ f. f.told) kept ∙ same)
       | inr h ↦ unlawful h.0 (record {
@@ -103,52 +103,52 @@ compiled_end language kernels source_name kernel source (violated rule at) next 
       })
     ]
 
-source_end : (language : Language) (kernels : KernelsAreOne language) (source_name kernel : List ℕ) (next : ModuleOf → Plan) (before now : FilesState) (out_before out_now : SinkState) (result : Status)
-    → Ends language true (source_plan source_name kernel next) before out_before now out_now result → SourceEnd language source_name kernel next before out_before now out_now result
+source_end : (sources : Sources) (kernels : KernelsAreOne sources.compiled) (source_name kernel : List ℕ) (next : ModuleOf → Plan) (before now : FilesState) (out_before out_now : SinkState) (result : Status)
+    → Ends sources true (source_plan source_name kernel next) before out_before now out_now result → SourceEnd sources source_name kernel next before out_before now out_now result
 unfolding source_plan
-source_end language kernels source_name kernel next before now out_before out_now result (inl h) = unmade (short_outside result h.is) (ap (λ f. f.told) h.files)
-source_end language kernels source_name kernel next before now out_before out_now result (inr (inl h)) = unmade (says_outside out_before out_now _ h.trouble result h.says) h.files
-source_end language kernels source_name kernel next before now out_before out_now result (inr (inr (source, mid, read, inl h))) = unmade (short_outside result h.is) (ap (λ f. f.told) h.files ∙ read.files)
-source_end language kernels source_name kernel next before now out_before out_now result (inr (inr (source, mid, read, inr (all, is, ends)))) =
-    compiled_end language kernels source_name kernel source all next before mid now out_before out_now result read.counts read.files read.holds read.fits is ends
+source_end sources kernels source_name kernel next before now out_before out_now result (inl h) = unmade (short_outside result h.is) (ap (λ f. f.told) h.files)
+source_end sources kernels source_name kernel next before now out_before out_now result (inr (inl h)) = unmade (says_outside out_before out_now _ h.trouble result h.says) h.files
+source_end sources kernels source_name kernel next before now out_before out_now result (inr (inr (source, mid, read, inl h))) = unmade (short_outside result h.is) (ap (λ f. f.told) h.files ∙ read.files)
+source_end sources kernels source_name kernel next before now out_before out_now result (inr (inr (source, mid, read, inr (all, is, ends)))) =
+    compiled_end sources kernels source_name kernel source all next before mid now out_before out_now result read.counts read.files read.holds read.fits is ends
 
 -- ---- `compile`
 
 -- a module was written, and the line
-store_end : (language : Language) (module_name : List ℕ) (code : ModuleOf) (before now : FilesState) (out_before out_now : SinkState) (result : Status)
-    → Ends language true (store_plan module_name code) before out_before now out_now result
+store_end : (sources : Sources) (module_name : List ℕ) (code : ModuleOf) (before now : FilesState) (out_before out_now : SinkState) (result : Status)
+    → Ends sources true (store_plan module_name code) before out_before now out_now result
     → IsOutside result ⊎ ((result ≡ Done) × (now.told ≡ option_map (with_file module_name (Some (module_bytes code))) before.told) × Gains out_before out_now (compiled_line code))
 unfolding store_plan
-store_end language module_name code before now out_before out_now result (inl h) = inl (short_outside result h.is)
-store_end language module_name code before now out_before out_now result (inr (inl h)) = inl (short_outside result h.is)
-store_end language module_name code before now out_before out_now result (inr (inr (inl h))) = inl (says_outside out_before out_now _ h.trouble result h.says)
-store_end language module_name code before now out_before out_now result (inr (inr (inr (last, wrote, inl h)))) = inl (short_outside result h.is)
-store_end language module_name code before now out_before out_now result (inr (inr (inr (last, wrote, inr (kept, says))))) =
+store_end sources module_name code before now out_before out_now result (inl h) = inl (short_outside result h.is)
+store_end sources module_name code before now out_before out_now result (inr (inl h)) = inl (short_outside result h.is)
+store_end sources module_name code before now out_before out_now result (inr (inr (inl h))) = inl (says_outside out_before out_now _ h.trouble result h.says)
+store_end sources module_name code before now out_before out_now result (inr (inr (inr (last, wrote, inl h)))) = inl (short_outside result h.is)
+store_end sources module_name code before now out_before out_now result (inr (inr (inr (last, wrote, inr (kept, says))))) =
     elim (says_cases out_before out_now (compiled_line code) Done result says) [
       | inl h ↦ inl h
       | inr h ↦ inr (h.0, ap (λ f. f.told) kept ∙ wrote.files, h.1)
     ]
 
-outside_compile : (language : Language) (source_name kernel module_name : List ℕ) (before now : FilesState) (out_before out_now : SinkState) (result : Status)
-    → IsOutside result → CompileAnswers language source_name kernel module_name before out_before now out_now result
-outside_compile language source_name kernel module_name before now out_before out_now result h = record {
+outside_compile : (sources : Sources) (source_name kernel module_name : List ℕ) (before now : FilesState) (out_before out_now : SinkState) (result : Status)
+    → IsOutside result → CompileAnswers sources.compiled source_name kernel module_name before out_before now out_now result
+outside_compile sources source_name kernel module_name before now out_before out_now result h = record {
   compiled = λ e. absurd (outside_not result Done not_done h e);
   refused = λ e. absurd (outside_not result Refused not_refused h e);
   own = inr (outside_early result h);
 }
 
-compile_answers : (language : Language) (source_name kernel module_name : List ℕ) (before now : FilesState) (out_before out_now : SinkState) (result : Status)
-    → SourceEnd language source_name kernel (store_plan module_name) before out_before now out_now result
-    → CompileAnswers language source_name kernel module_name before out_before now out_now result
-compile_answers language source_name kernel module_name before now out_before out_now result (unmade h same) = outside_compile language source_name kernel module_name before now out_before out_now result h
-compile_answers language source_name kernel module_name before now out_before out_now result (unlawful is h) = record {
+compile_answers : (sources : Sources) (source_name kernel module_name : List ℕ) (before now : FilesState) (out_before out_now : SinkState) (result : Status)
+    → SourceEnd sources source_name kernel (store_plan module_name) before out_before now out_now result
+    → CompileAnswers sources.compiled source_name kernel module_name before out_before now out_now result
+compile_answers sources source_name kernel module_name before now out_before out_now result (unmade h same) = outside_compile sources source_name kernel module_name before now out_before out_now result h
+compile_answers sources source_name kernel module_name before now out_before out_now result (unlawful is h) = record {
   compiled = λ e. absurd (cc);
   refused = λ e. h;
   own = inr (subst IsEarly (sym is) tt);
 }
-compile_answers language source_name kernel module_name before now out_before out_now result (made source code mid counts same is ends) =
-    elim (store_end language module_name code mid now out_before out_now result ends) [
-      | inl h ↦ outside_compile language source_name kernel module_name before now out_before out_now result h
+compile_answers sources source_name kernel module_name before now out_before out_now result (made source code mid counts same is ends) =
+    elim (store_end sources module_name code mid now out_before out_now result ends) [
+      | inl h ↦ outside_compile sources source_name kernel module_name before now out_before out_now result h
       | inr h ↦ record {
         compiled = λ e. record { source = source; code = code; made = is; files = h.1 ∙ ap (option_map (with_file module_name (Some (module_bytes code)))) same; line = h.2 };
         refused = λ e. absurd (let done : result ≡ Done = h.0 in cc);
@@ -156,11 +156,11 @@ compile_answers language source_name kernel module_name before now out_before ou
       }
     ]
 
-usage_compile : (language : Language) (source_name kernel module_name : List ℕ) (before now : FilesState) (out_before out_now : SinkState) (result : Status)
-    → Says out_before out_now usage_line Usage result → CompileAnswers language source_name kernel module_name before out_before now out_now result
-usage_compile language source_name kernel module_name before now out_before out_now result says =
+usage_compile : (sources : Sources) (source_name kernel module_name : List ℕ) (before now : FilesState) (out_before out_now : SinkState) (result : Status)
+    → Says out_before out_now usage_line Usage result → CompileAnswers sources.compiled source_name kernel module_name before out_before now out_now result
+usage_compile sources source_name kernel module_name before now out_before out_now result says =
     elim (says_cases out_before out_now usage_line Usage result says) [
-      | inl h ↦ outside_compile language source_name kernel module_name before now out_before out_now result h
+      | inl h ↦ outside_compile sources source_name kernel module_name before now out_before out_now result h
       | inr h ↦ record {
         compiled = λ e. absurd (let usage : result ≡ Usage = h.0 in cc);
         refused = λ e. absurd (let usage : result ≡ Usage = h.0 in cc);
@@ -168,26 +168,26 @@ usage_compile language source_name kernel module_name before now out_before out_
       }
     ]
 
-compile_names : (language : Language) (kernels : KernelsAreOne language) (same : Bool) (source_name kernel module_name : List ℕ) (before now : FilesState) (out_before out_now : SinkState) (result : Status)
-    → Runs language (cond same None (Some (compile_plan source_name kernel module_name))) before out_before now out_now result
-    → CompileAnswers language source_name kernel module_name before out_before now out_now result
+compile_names : (sources : Sources) (kernels : KernelsAreOne sources.compiled) (same : Bool) (source_name kernel module_name : List ℕ) (before now : FilesState) (out_before out_now : SinkState) (result : Status)
+    → Runs sources (cond same None (Some (compile_plan source_name kernel module_name))) before out_before now out_now result
+    → CompileAnswers sources.compiled source_name kernel module_name before out_before now out_now result
 unfolding compile_plan
-compile_names language kernels true source_name kernel module_name before now out_before out_now result h = usage_compile language source_name kernel module_name before now out_before out_now result h.1
-compile_names language kernels false source_name kernel module_name before now out_before out_now result h =
-    compile_answers language source_name kernel module_name before now out_before out_now result (source_end language kernels source_name kernel (store_plan module_name) before now out_before out_now result h)
+compile_names sources kernels true source_name kernel module_name before now out_before out_now result h = usage_compile sources source_name kernel module_name before now out_before out_now result h.1
+compile_names sources kernels false source_name kernel module_name before now out_before out_now result h =
+    compile_answers sources source_name kernel module_name before now out_before out_now result (source_end sources kernels source_name kernel (store_plan module_name) before now out_before out_now result h)
 
-pub runs_compile : (language : Language) (kernels : KernelsAreOne language) (words : List (List ℕ)) (before : FilesState) (out_before : SinkState) (now : FilesState) (out_now : SinkState) (result : Status)
-    → Runs language (plan_of words) before out_before now out_now result
-    → IfCompile words (λ source_name kernel module_name. CompileAnswers language source_name kernel module_name before out_before now out_now result)
+pub runs_compile : (sources : Sources) (kernels : KernelsAreOne sources.compiled) (words : List (List ℕ)) (before : FilesState) (out_before : SinkState) (now : FilesState) (out_now : SinkState) (result : Status)
+    → Runs sources (plan_of words) before out_before now out_now result
+    → IfCompile words (λ source_name kernel module_name. CompileAnswers sources.compiled source_name kernel module_name before out_before now out_now result)
 unfolding plan_of
-runs_compile language kernels (verb ∷ source_name ∷ kernel ∷ module_name ∷ []) before out_before now out_now result h = λ is.
-    let P : Bool → Type 0 = λ b. Runs language (cond b (cond (bytes_eq source_name module_name) None (Some (compile_plan source_name kernel module_name))) None) before out_before now out_now result in
-    compile_names language kernels (bytes_eq source_name module_name) source_name kernel module_name before now out_before out_now result (subst P ((bytes_eq-Decides verb (codes "compile")).1 is) h)
-runs_compile language kernels [] before out_before now out_now result h = tt
-runs_compile language kernels (one ∷ []) before out_before now out_now result h = tt
-runs_compile language kernels (one ∷ two ∷ []) before out_before now out_now result h = tt
-runs_compile language kernels (one ∷ two ∷ three ∷ []) before out_before now out_now result h = tt
-runs_compile language kernels (one ∷ two ∷ three ∷ four ∷ five ∷ words) before out_before now out_now result h = tt
+runs_compile sources kernels (verb ∷ source_name ∷ kernel ∷ module_name ∷ []) before out_before now out_now result h = λ is.
+    let P : Bool → Type 0 = λ b. Runs sources (cond b (cond (bytes_eq source_name module_name) None (Some (compile_plan source_name kernel module_name))) None) before out_before now out_now result in
+    compile_names sources kernels (bytes_eq source_name module_name) source_name kernel module_name before now out_before out_now result (subst P ((bytes_eq-Decides verb (codes "compile")).1 is) h)
+runs_compile sources kernels [] before out_before now out_now result h = tt
+runs_compile sources kernels (one ∷ []) before out_before now out_now result h = tt
+runs_compile sources kernels (one ∷ two ∷ []) before out_before now out_now result h = tt
+runs_compile sources kernels (one ∷ two ∷ three ∷ []) before out_before now out_now result h = tt
+runs_compile sources kernels (one ∷ two ∷ three ∷ four ∷ five ∷ words) before out_before now out_now result h = tt
 
 -- ---- buffers that were read
 
@@ -250,11 +250,11 @@ broken_stop stop.Finished e never = cc
 broken_stop stop.Going e never = cc
 broken_stop (stop.Broken rule k place) e never = never rule k place refl
 
-safe_run : (language : Language) (kernels : KernelsAreOne language) (source_name source kernel : List ℕ) (code : ModuleOf) (taken : List (List ℕ)) (launch_name : List ℕ) (first before now : FilesState) (out_before out_now : SinkState) (result : Status)
-    → IsMade language source_name kernel first source code → Executed code taken launch_name before out_before now out_now result
-    → Ran language source kernel code taken launch_name before out_before now out_now result
+safe_run : (sources : Sources) (kernels : KernelsAreOne sources.compiled) (source_name source kernel : List ℕ) (code : ModuleOf) (taken : List (List ℕ)) (launch_name : List ℕ) (first before now : FilesState) (out_before out_now : SinkState) (result : Status)
+    → IsMade sources.compiled source_name kernel first source code → Executed code taken launch_name before out_before now out_now result
+    → Ran sources.compiled source kernel code taken launch_name before out_before now out_now result
 unfolding opening_for ran
-safe_run language kernels source_name source kernel code taken launch_name first before now out_before out_now result is run = record {
+safe_run sources kernels source_name source kernel code taken launch_name first before now out_before out_now result is run = record {
   run = run;
   safe = λ k is_k turns ended safe.
       let launch : LaunchOf = launch_in run.text in
@@ -273,9 +273,9 @@ safe_run language kernels source_name source kernel code taken launch_name first
 
 -- ---- `run`
 
-unwritten_run : (language : Language) (source_name kernel module_name launch_name : List ℕ) (before now : FilesState) (out_before out_now : SinkState) (result : Status)
-    → IsOutside result → (now.told ≡ before.told) ⊎ (Spoils before now module_name × (Rose before.write_faults now.write_faults ⊎ Rose before.shortages now.shortages)) → RunAnswers language source_name kernel module_name launch_name before out_before now out_now result
-unwritten_run language source_name kernel module_name launch_name before now out_before out_now result h files = record {
+unwritten_run : (sources : Sources) (source_name kernel module_name launch_name : List ℕ) (before now : FilesState) (out_before out_now : SinkState) (result : Status)
+    → IsOutside result → (now.told ≡ before.told) ⊎ (Spoils before now module_name × (Rose before.write_faults now.write_faults ⊎ Rose before.shortages now.shortages)) → RunAnswers sources source_name kernel module_name launch_name before out_before now out_now result
+unwritten_run sources source_name kernel module_name launch_name before now out_before out_now result h files = record {
   refused = λ e. absurd (outside_not result Refused not_refused h e);
   stands = inr (record { early = outside_early result h; files = files });
 }
@@ -295,23 +295,23 @@ write_rose before mid now IsReadFault counts cause = absurd cause
 write_rose before mid now IsWriteFault counts cause = inl (let more = counts.write_faults in omega (arith, more, cause))
 write_rose before mid now IsMemory counts cause = inr (let more = counts.shortages in omega (arith, more, cause))
 
-keep_end : (language : Language) (kernels : KernelsAreOne language) (source_name kernel module_name launch_name source : List ℕ) (code : ModuleOf) (before mid now : FilesState) (out_before out_now : SinkState) (result : Status)
-    → FilesCountsStay before mid → mid.told ≡ before.told → IsMade language source_name kernel before source code
-    → Ends language true (keep_plan (source_name ∷ module_name ∷ launch_name ∷ []) module_name launch_name code) mid out_before now out_now result
-    → RunAnswers language source_name kernel module_name launch_name before out_before now out_now result
+keep_end : (sources : Sources) (kernels : KernelsAreOne sources.compiled) (source_name kernel module_name launch_name source : List ℕ) (code : ModuleOf) (before mid now : FilesState) (out_before out_now : SinkState) (result : Status)
+    → FilesCountsStay before mid → mid.told ≡ before.told → IsMade sources.compiled source_name kernel before source code
+    → Ends sources true (keep_plan (source_name ∷ module_name ∷ launch_name ∷ []) module_name launch_name code) mid out_before now out_now result
+    → RunAnswers sources source_name kernel module_name launch_name before out_before now out_now result
 unfolding keep_plan
-keep_end language kernels source_name kernel module_name launch_name source code before mid now out_before out_now result counts same is (inl h) =
-    unwritten_run language source_name kernel module_name launch_name before now out_before out_now result (short_outside result h.is) (inl (ap (λ f. f.told) h.files ∙ same))
-keep_end language kernels source_name kernel module_name launch_name source code before mid now out_before out_now result counts same is (inr (inl h)) =
-    unwritten_run language source_name kernel module_name launch_name before now out_before out_now result (says_outside out_before out_now _ h.trouble result h.says)
+keep_end sources kernels source_name kernel module_name launch_name source code before mid now out_before out_now result counts same is (inl h) =
+    unwritten_run sources source_name kernel module_name launch_name before now out_before out_now result (short_outside result h.is) (inl (ap (λ f. f.told) h.files ∙ same))
+keep_end sources kernels source_name kernel module_name launch_name source code before mid now out_before out_now result counts same is (inr (inl h)) =
+    unwritten_run sources source_name kernel module_name launch_name before now out_before out_now result (says_outside out_before out_now _ h.trouble result h.says)
     (inr ((h.files.0, h.files.1 ∙ ap (option_map (with_file module_name h.files.0)) same), write_rose before mid now h.trouble counts h.cause))
-keep_end language kernels source_name kernel module_name launch_name source code before mid now out_before out_now result counts same is (inr (inr (last, wrote, ends))) =
+keep_end sources kernels source_name kernel module_name launch_name source code before mid now out_before out_now result counts same is (inr (inr (last, wrote, ends))) =
     let taken : List (List ℕ) = source_name ∷ module_name ∷ launch_name ∷ [] in
     let bytes : List ℕ = module_bytes code in
     let write = wrote.files ∙ ap (option_map (with_file module_name (Some bytes))) same in
     let there : Holds last module_name bytes = subst (λ told. IfSome told (λ tree. tree module_name ≡ Some bytes)) (sym write) (holds_written before.told module_name bytes) in
     let said : LaunchAnswers code taken launch_name last out_before now out_now result =
-    launch_answers code taken launch_name last now out_before out_now result (launch_end language code taken launch_name last last now out_before out_now result refl ends) in
+    launch_answers code taken launch_name last now out_before out_now result (launch_end sources code taken launch_name last last now out_before out_now result refl ends) in
     record {
       refused = λ e. absurd (said.source_good e);
       stands = inl (record {
@@ -320,57 +320,57 @@ keep_end language kernels source_name kernel module_name launch_name source code
         made = is;
         mid = last;
         write = write;
-        kept = ends_spare language true module_name bytes (launch_plan taken code launch_name) last out_before now out_now result
+        kept = ends_spare sources true module_name bytes (exec_launch_plan taken code launch_name) last out_before now out_now result
             (launch_spares taken module_name (second source_name module_name launch_name) code launch_name) ends there;
-        ran = λ r. safe_run language kernels source_name source kernel code taken launch_name before last now out_before out_now result is (said.run r);
+        ran = λ r. safe_run sources kernels source_name source kernel code taken launch_name before last now out_before out_now result is (said.run r);
         bad_launch = said.bad_launch;
         rest = ends;
       });
     }
 
-run_answers : (language : Language) (kernels : KernelsAreOne language) (source_name kernel module_name launch_name : List ℕ) (before now : FilesState) (out_before out_now : SinkState) (result : Status)
-    → SourceEnd language source_name kernel (keep_plan (source_name ∷ module_name ∷ launch_name ∷ []) module_name launch_name) before out_before now out_now result
-    → RunAnswers language source_name kernel module_name launch_name before out_before now out_now result
-run_answers language kernels source_name kernel module_name launch_name before now out_before out_now result (unmade h same) =
-    unwritten_run language source_name kernel module_name launch_name before now out_before out_now result h (inl same)
-run_answers language kernels source_name kernel module_name launch_name before now out_before out_now result (unlawful is h) = record {
+run_answers : (sources : Sources) (kernels : KernelsAreOne sources.compiled) (source_name kernel module_name launch_name : List ℕ) (before now : FilesState) (out_before out_now : SinkState) (result : Status)
+    → SourceEnd sources source_name kernel (keep_plan (source_name ∷ module_name ∷ launch_name ∷ []) module_name launch_name) before out_before now out_now result
+    → RunAnswers sources source_name kernel module_name launch_name before out_before now out_now result
+run_answers sources kernels source_name kernel module_name launch_name before now out_before out_now result (unmade h same) =
+    unwritten_run sources source_name kernel module_name launch_name before now out_before out_now result h (inl same)
+run_answers sources kernels source_name kernel module_name launch_name before now out_before out_now result (unlawful is h) = record {
   refused = λ e. h;
   stands = inr (record { early = subst IsEarly (sym is) tt; files = inl h.files });
 }
-run_answers language kernels source_name kernel module_name launch_name before now out_before out_now result (made source code mid counts same is ends) =
-    keep_end language kernels source_name kernel module_name launch_name source code before mid now out_before out_now result counts same is ends
+run_answers sources kernels source_name kernel module_name launch_name before now out_before out_now result (made source code mid counts same is ends) =
+    keep_end sources kernels source_name kernel module_name launch_name source code before mid now out_before out_now result counts same is ends
 
-usage_run : (language : Language) (source_name kernel module_name launch_name : List ℕ) (before now : FilesState) (out_before out_now : SinkState) (result : Status)
-    → now ≡ before → Says out_before out_now usage_line Usage result → RunAnswers language source_name kernel module_name launch_name before out_before now out_now result
-usage_run language source_name kernel module_name launch_name before now out_before out_now result same says =
+usage_run : (sources : Sources) (source_name kernel module_name launch_name : List ℕ) (before now : FilesState) (out_before out_now : SinkState) (result : Status)
+    → now ≡ before → Says out_before out_now usage_line Usage result → RunAnswers sources source_name kernel module_name launch_name before out_before now out_now result
+usage_run sources source_name kernel module_name launch_name before now out_before out_now result same says =
     elim (says_cases out_before out_now usage_line Usage result says) [
-      | inl h ↦ unwritten_run language source_name kernel module_name launch_name before now out_before out_now result h (inl (ap (λ f. f.told) same))
+      | inl h ↦ unwritten_run sources source_name kernel module_name launch_name before now out_before out_now result h (inl (ap (λ f. f.told) same))
       | inr h ↦ record {
         refused = λ e. absurd (let usage : result ≡ Usage = h.0 in cc);
         stands = inr (record { early = subst IsEarly (sym h.0) tt; files = inl (ap (λ f. f.told) same) });
       }
     ]
 
-run_names : (language : Language) (kernels : KernelsAreOne language) (apart : Bool) (source_name kernel module_name launch_name : List ℕ) (before now : FilesState) (out_before out_now : SinkState) (result : Status)
-    → Runs language (cond apart (Some (run_plan source_name kernel module_name launch_name)) None) before out_before now out_now result
-    → RunAnswers language source_name kernel module_name launch_name before out_before now out_now result
+run_names : (sources : Sources) (kernels : KernelsAreOne sources.compiled) (apart : Bool) (source_name kernel module_name launch_name : List ℕ) (before now : FilesState) (out_before out_now : SinkState) (result : Status)
+    → Runs sources (cond apart (Some (run_plan source_name kernel module_name launch_name)) None) before out_before now out_now result
+    → RunAnswers sources source_name kernel module_name launch_name before out_before now out_now result
 unfolding run_plan
-run_names language kernels false source_name kernel module_name launch_name before now out_before out_now result h =
-    usage_run language source_name kernel module_name launch_name before now out_before out_now result h.0 h.1
-run_names language kernels true source_name kernel module_name launch_name before now out_before out_now result h =
-    run_answers language kernels source_name kernel module_name launch_name before now out_before out_now result
-    (source_end language kernels source_name kernel (keep_plan (source_name ∷ module_name ∷ launch_name ∷ []) module_name launch_name) before now out_before out_now result h)
+run_names sources kernels false source_name kernel module_name launch_name before now out_before out_now result h =
+    usage_run sources source_name kernel module_name launch_name before now out_before out_now result h.0 h.1
+run_names sources kernels true source_name kernel module_name launch_name before now out_before out_now result h =
+    run_answers sources kernels source_name kernel module_name launch_name before now out_before out_now result
+    (source_end sources kernels source_name kernel (keep_plan (source_name ∷ module_name ∷ launch_name ∷ []) module_name launch_name) before now out_before out_now result h)
 
-pub runs_run : (language : Language) (kernels : KernelsAreOne language) (words : List (List ℕ)) (before : FilesState) (out_before : SinkState) (now : FilesState) (out_now : SinkState) (result : Status)
-    → Runs language (plan_of words) before out_before now out_now result
-    → IfRun words (λ source_name kernel module_name launch_name. RunAnswers language source_name kernel module_name launch_name before out_before now out_now result)
+pub runs_run : (sources : Sources) (kernels : KernelsAreOne sources.compiled) (words : List (List ℕ)) (before : FilesState) (out_before : SinkState) (now : FilesState) (out_now : SinkState) (result : Status)
+    → Runs sources (plan_of words) before out_before now out_now result
+    → IfRun words (λ source_name kernel module_name launch_name. RunAnswers sources source_name kernel module_name launch_name before out_before now out_now result)
 unfolding plan_of
-runs_run language kernels (verb ∷ source_name ∷ kernel ∷ module_name ∷ launch_name ∷ []) before out_before now out_now result h = λ is.
-    let P : Bool → Type 0 = λ b. Runs language (cond b (cond (are_apart source_name module_name launch_name) (Some (run_plan source_name kernel module_name launch_name)) None) None) before out_before now out_now result in
-    run_names language kernels (are_apart source_name module_name launch_name) source_name kernel module_name launch_name before now out_before out_now result (subst P ((bytes_eq-Decides verb (codes "run")).1 is) h)
-runs_run language kernels [] before out_before now out_now result h = tt
-runs_run language kernels (one ∷ []) before out_before now out_now result h = tt
-runs_run language kernels (one ∷ two ∷ []) before out_before now out_now result h = tt
-runs_run language kernels (one ∷ two ∷ three ∷ []) before out_before now out_now result h = tt
-runs_run language kernels (one ∷ two ∷ three ∷ four ∷ []) before out_before now out_now result h = tt
-runs_run language kernels (one ∷ two ∷ three ∷ four ∷ five ∷ six ∷ words) before out_before now out_now result h = tt
+runs_run sources kernels (verb ∷ source_name ∷ kernel ∷ module_name ∷ launch_name ∷ []) before out_before now out_now result h = λ is.
+    let P : Bool → Type 0 = λ b. Runs sources (cond b (cond (are_apart source_name module_name launch_name) (Some (run_plan source_name kernel module_name launch_name)) None) (cond (bytes_eq verb (codes "judge")) (judge_plan_of source_name kernel module_name launch_name) None)) before out_before now out_now result in
+    run_names sources kernels (are_apart source_name module_name launch_name) source_name kernel module_name launch_name before now out_before out_now result (subst P ((bytes_eq-Decides verb (codes "run")).1 is) h)
+runs_run sources kernels [] before out_before now out_now result h = tt
+runs_run sources kernels (one ∷ []) before out_before now out_now result h = tt
+runs_run sources kernels (one ∷ two ∷ []) before out_before now out_now result h = tt
+runs_run sources kernels (one ∷ two ∷ three ∷ []) before out_before now out_now result h = tt
+runs_run sources kernels (one ∷ two ∷ three ∷ four ∷ []) before out_before now out_now result h = tt
+runs_run sources kernels (one ∷ two ∷ three ∷ four ∷ five ∷ six ∷ words) before out_before now out_now result h = tt

@@ -15,19 +15,20 @@ use Rattle.launch_file.specs.Fit.{FaultAt, fit_fault}
 use Rattle.launch_file.proofs.FitLaws.{no_fault_is_fit}
 use Rattle.vc4q_module.specs.ModuleBytes.{ModuleOf}
 use Rattle.promise.specs.Faithful.{buffers_of}
-use Rattle.commands.specs.Plan.{Compilation, Plan, reads, writes, compiles, commits, answers, Ends}
+use Rattle.commands.specs.Plan.{MadeOf, Plan, reads, writes, makes, commits, answers, Ends}
 use Rattle.commands.specs.Buffers.{filled, read_buffer, read_buffers, write_buffer, write_buffers}
 use Rattle.commands.specs.Openings.{opening_for}
 use Rattle.commands.specs.Play.{ran, report_plan, play_plan}
-use Rattle.commands.specs.Exec.{launch_plan, after_launch, fit_plan, after_fit, schedule_plan, buffers_plan, ready_plan, read_schedule}
+use Rattle.commands.specs.Launching.{launch_plan, after_launch, fit_plan, after_fit}
+use Rattle.commands.specs.Exec.{exec_launch_plan, schedule_plan, buffers_plan, ready_plan, read_schedule}
 use Rattle.commands.specs.declared.status.Status.{Status}
-use Rattle.promise.specs.Language.{Language}
+use Rattle.promise.specs.Language.{Sources}
 
 -- a plan that doesn't write this file
 pub Spares : List ℕ → Plan → Type 0
 Spares name (reads other limit next) = (bytes : List ℕ) → Spares name (next bytes)
 Spares name (writes other bytes next) = (bytes_eq other name ≡ false) × Spares name next
-Spares name (compiles source kernel next) = (made : Compilation) → Spares name (next made)
+Spares name (makes wanted next) = (made : MadeOf wanted) → Spares name (next made)
 Spares name (commits next) = Spares name next
 Spares name (answers answer line) = ⊤
 
@@ -43,24 +44,24 @@ holds_beside : (before now : FilesState) (other name bytes : List ℕ) (content 
     → now.told ≡ option_map (with_file other content) before.told → Holds before name bytes → Holds now name bytes
 holds_beside before now other name bytes content apart e h = subst (λ told. IfSome told (λ tree. tree name ≡ Some bytes)) (sym e) (other_file before.told other name bytes content apart h)
 
-pub ends_spare : (language : Language) (asks : Bool) (name bytes : List ℕ) (plan : Plan) (before : FilesState) (out_before : SinkState) (now : FilesState) (out_now : SinkState) (result : Status)
-    → Spares name plan → Ends language asks plan before out_before now out_now result → Holds before name bytes → Holds now name bytes
+pub ends_spare : (sources : Sources) (asks : Bool) (name bytes : List ℕ) (plan : Plan) (before : FilesState) (out_before : SinkState) (now : FilesState) (out_now : SinkState) (result : Status)
+    → Spares name plan → Ends sources asks plan before out_before now out_now result → Holds before name bytes → Holds now name bytes
 unfolding Spares
-ends_spare language asks name bytes (reads other limit next) before out_before now out_now result spares (inl h) is = holds_same before now name bytes (ap (λ f. f.told) h.files) is
-ends_spare language asks name bytes (reads other limit next) before out_before now out_now result spares (inr (inl h)) is = holds_same before now name bytes h.files is
-ends_spare language asks name bytes (reads other limit next) before out_before now out_now result spares (inr (inr h)) is =
-    ends_spare language asks name bytes (next h.0) h.1 out_before now out_now result (spares h.0) h.3 (holds_same before h.1 name bytes h.2.files is)
-ends_spare language asks name bytes (writes other written next) before out_before now out_now result spares (inl h) is = holds_same before now name bytes (ap (λ f. f.told) h.files) is
-ends_spare language asks name bytes (writes other written next) before out_before now out_now result spares (inr (inl h)) is = holds_beside before now other name bytes h.files.0 spares.0 h.files.1 is
-ends_spare language asks name bytes (writes other written next) before out_before now out_now result spares (inr (inr h)) is =
-    ends_spare language asks name bytes next h.0 out_before now out_now result spares.1 h.2 (holds_beside before h.0 other name bytes (Some written) spares.0 h.1.files is)
-ends_spare language asks name bytes (compiles source kernel next) before out_before now out_now result spares (inl h) is = holds_same before now name bytes (ap (λ f. f.told) h.files) is
-ends_spare language asks name bytes (compiles source kernel next) before out_before now out_now result spares (inr h) is =
-    ends_spare language asks name bytes (next h.0) before out_before now out_now result (spares h.0) h.2 is
-ends_spare language asks name bytes (commits next) before out_before now out_now result spares (inl h) is = holds_same before now name bytes (ap (λ f. f.told) h.files) is
-ends_spare language asks name bytes (commits next) before out_before now out_now result spares (inr h) is = ends_spare language false name bytes next before out_before now out_now result spares h is
-ends_spare language asks name bytes (answers answer line) before out_before now out_now result spares (inl h) is = holds_same before now name bytes (ap (λ f. f.told) h.files) is
-ends_spare language asks name bytes (answers answer line) before out_before now out_now result spares (inr h) is = holds_same before now name bytes (ap (λ f. f.told) h.0) is
+ends_spare sources asks name bytes (reads other limit next) before out_before now out_now result spares (inl h) is = holds_same before now name bytes (ap (λ f. f.told) h.files) is
+ends_spare sources asks name bytes (reads other limit next) before out_before now out_now result spares (inr (inl h)) is = holds_same before now name bytes h.files is
+ends_spare sources asks name bytes (reads other limit next) before out_before now out_now result spares (inr (inr h)) is =
+    ends_spare sources asks name bytes (next h.0) h.1 out_before now out_now result (spares h.0) h.3 (holds_same before h.1 name bytes h.2.files is)
+ends_spare sources asks name bytes (writes other written next) before out_before now out_now result spares (inl h) is = holds_same before now name bytes (ap (λ f. f.told) h.files) is
+ends_spare sources asks name bytes (writes other written next) before out_before now out_now result spares (inr (inl h)) is = holds_beside before now other name bytes h.files.0 spares.0 h.files.1 is
+ends_spare sources asks name bytes (writes other written next) before out_before now out_now result spares (inr (inr h)) is =
+    ends_spare sources asks name bytes next h.0 out_before now out_now result spares.1 h.2 (holds_beside before h.0 other name bytes (Some written) spares.0 h.1.files is)
+ends_spare sources asks name bytes (makes wanted next) before out_before now out_now result spares (inl h) is = holds_same before now name bytes (ap (λ f. f.told) h.files) is
+ends_spare sources asks name bytes (makes wanted next) before out_before now out_now result spares (inr h) is =
+    ends_spare sources asks name bytes (next h.0) before out_before now out_now result (spares h.0) h.2 is
+ends_spare sources asks name bytes (commits next) before out_before now out_now result spares (inl h) is = holds_same before now name bytes (ap (λ f. f.told) h.files) is
+ends_spare sources asks name bytes (commits next) before out_before now out_now result spares (inr h) is = ends_spare sources false name bytes next before out_before now out_now result spares h is
+ends_spare sources asks name bytes (answers answer line) before out_before now out_now result spares (inl h) is = holds_same before now name bytes (ap (λ f. f.told) h.files) is
+ends_spare sources asks name bytes (answers answer line) before out_before now out_now result spares (inr h) is = holds_same before now name bytes (ap (λ f. f.told) h.0) is
 
 -- ---- the plans of `exec`, from the launch on
 
@@ -110,18 +111,18 @@ module _ (taken : List (List ℕ)) (name : List ℕ) (there : Contains taken nam
       let r = ran (opening_for code launch buffers) launch.schedule file in
       writes_spare launch.buffers (buffers_of r) (report_plan r) free tt
 
-  fit_spares : (fault : Option FaultAt) (code : ModuleOf) (launch : LaunchOf) → fit_fault launch code.kinds taken ≡ fault → Spares name (after_fit fault code launch)
+  fit_spares : (fault : Option FaultAt) (code : ModuleOf) (launch : LaunchOf) → fit_fault launch code.kinds taken ≡ fault → Spares name (after_fit fault (schedule_plan code) launch)
   unfolding Spares schedule_plan buffers_plan
   fit_spares None code launch is =
       let free = ((no_fault_is_fit launch code.kinds taken).0 is).names in
       schedule_spares launch.schedule (buffers_plan code launch) (λ file. buffers_spare launch.buffers [] (ready_plan code launch file) (λ buffers. ready_spares code launch file buffers free))
   fit_spares (Some fault) code launch is = tt
 
-  text_spares : (fault : Option (ℕ × ℕ)) (code : ModuleOf) (launch : LaunchOf) → Spares name (after_launch fault taken code launch)
+  text_spares : (fault : Option (ℕ × ℕ)) (code : ModuleOf) (launch : LaunchOf) → Spares name (after_launch fault taken code.kinds (schedule_plan code) launch)
   unfolding Spares fit_plan
   text_spares None code launch = fit_spares (fit_fault launch code.kinds taken) code launch refl
   text_spares (Some fault) code launch = tt
 
-  pub launch_spares : (code : ModuleOf) (launch_name : List ℕ) → Spares name (launch_plan taken code launch_name)
+  pub launch_spares : (code : ModuleOf) (launch_name : List ℕ) → Spares name (exec_launch_plan taken code launch_name)
   unfolding Spares launch_plan
   launch_spares code launch_name = λ bytes. text_spares (launch_fault bytes) code (launch_in bytes)

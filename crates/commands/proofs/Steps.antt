@@ -9,17 +9,17 @@ use Rattle.q_io.specs.FilesMeaning.{FilesState}
 use Rattle.q_io.specs.SinkMeaning.{SinkState}
 use Rattle.commands.specs.declared.status.Status.{Status}
 use Rattle.commands.specs.declared.status.Status.TheVariants.{Memory}
-use Rattle.commands.specs.Plan.{Plan, reads, writes, compiles, commits, answers, Ends, Leads, HasRead}
+use Rattle.commands.specs.Plan.{Plan, reads, writes, makes, commits, answers, Ends, Leads, HasRead}
 use Rattle.commands.specs.Buffers.{filled, read_buffer, read_buffers, write_buffer, write_buffers}
-use Rattle.promise.specs.Language.{Language}
+use Rattle.promise.specs.Language.{Sources}
 
 -- before the machine's first step a run may end for want of memory at any place
-pub gives_up : (language : Language) (plan : Plan) (files : FilesState) (out : SinkState) → Ends language true plan files out files out Memory
-gives_up language (reads name limit next) files out = inl (record { may = refl; is = refl; files = refl; out = refl })
-gives_up language (writes name bytes next) files out = inl (record { may = refl; is = refl; files = refl; out = refl })
-gives_up language (compiles source kernel next) files out = inl (record { may = refl; is = refl; files = refl; out = refl })
-gives_up language (commits next) files out = inl (record { may = refl; is = refl; files = refl; out = refl })
-gives_up language (answers answer line) files out = inl (record { may = refl; is = refl; files = refl; out = refl })
+pub gives_up : (sources : Sources) (plan : Plan) (files : FilesState) (out : SinkState) → Ends sources true plan files out files out Memory
+gives_up sources (reads name limit next) files out = inl (record { may = refl; is = refl; files = refl; out = refl })
+gives_up sources (writes name bytes next) files out = inl (record { may = refl; is = refl; files = refl; out = refl })
+gives_up sources (makes wanted next) files out = inl (record { may = refl; is = refl; files = refl; out = refl })
+gives_up sources (commits next) files out = inl (record { may = refl; is = refl; files = refl; out = refl })
+gives_up sources (answers answer line) files out = inl (record { may = refl; is = refl; files = refl; out = refl })
 
 -- the reads from the i-th line on are the i-th and then the later ones
 pub read_buffers_at : (lines : List BufferLine) (i : ℕ) (line : BufferLine) (buffers : List (List ℕ)) (next : List (List ℕ) → Plan)
@@ -28,19 +28,19 @@ pub read_buffers_at : (lines : List BufferLine) (i : ℕ) (line : BufferLine) (b
 read_buffers_at lines i line buffers next within is =
     ap (λ ls. read_buffers ls buffers next) (drop-cons lines i line within ∙ ap (λ l. l ∷ drop (suc i) lines) (sym is) ∙ ap (λ n. line ∷ drop n lines) (sym (add-one i)))
 
-pub gives_up_as : (language : Language) (status : Status) (plan : Plan) (files : FilesState) (out : SinkState) → status ≡ Memory → Ends language true plan files out files out status
-gives_up_as language status plan files out e = subst (λ s. Ends language true plan files out files out s) (sym e) (gives_up language plan files out)
+pub gives_up_as : (sources : Sources) (status : Status) (plan : Plan) (files : FilesState) (out : SinkState) → status ≡ Memory → Ends sources true plan files out files out status
+gives_up_as sources status plan files out e = subst (λ s. Ends sources true plan files out files out s) (sym e) (gives_up sources plan files out)
 
 pub if_err_map : {T E : Type 0} (result : Result T E) (P Q : E → Type 0) → ((e : E) → P e → Q e) → IfErr result P → IfErr result Q
 if_err_map (Ok x) P Q h p = tt
 if_err_map (Err e) P Q h p = h e p
 
 -- a buffer's file was read
-pub buffer_read : (language : Language) (line : BufferLine) (name bytes : List ℕ) (next : List ℕ → Plan) (files mid : FilesState) (out : SinkState)
+pub buffer_read : (sources : Sources) (line : BufferLine) (name bytes : List ℕ) (next : List ℕ → Plan) (files mid : FilesState) (out : SinkState)
     → line.from ≡ Some name → HasRead files mid name line.size bytes
-    → Leads language true (read_buffer line next) files out (next (filled line.size bytes)) mid out
-buffer_read language line name bytes next files mid out e h =
-    let P : Option (List ℕ) → Type 0 = λ from. Leads language true (read_buffer (record line { from = from }) next) files out (next (filled line.size bytes)) mid out in
+    → Leads sources true (read_buffer line next) files out (next (filled line.size bytes)) mid out
+buffer_read sources line name bytes next files mid out e h =
+    let P : Option (List ℕ) → Type 0 = λ from. Leads sources true (read_buffer (record line { from = from }) next) files out (next (filled line.size bytes)) mid out in
     subst P (sym e) (λ now out_now result ends. inr (inr (bytes, mid, h, ends)))
 
 -- the writes from the i-th line on are the i-th and then the later ones

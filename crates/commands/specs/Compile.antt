@@ -6,8 +6,8 @@ use Rattle.promise.specs.declared.refusal.Refusal.{Refusal}
 use Rattle.promise.specs.declared.refusal.Refusal.TheVariants.{Rule, Memory as CompileMemory}
 use Rattle.commands.specs.Lines.{Says}
 use Rattle.commands.specs.Refusals.{refused_line}
-use Rattle.commands.specs.Plan.{Compilation, compiled, violated, Plan, reads, writes, compiles, commits, answers, done, refused}
-use Rattle.commands.specs.Exec.{launch_plan}
+use Rattle.commands.specs.Plan.{Compilation, compiled, violated, a_module, Plan, reads, writes, makes, commits, answers, done, refused}
+use Rattle.commands.specs.Exec.{exec_launch_plan}
 use Rattle.commands.specs.declared.status.Status.{Status}
 use Rattle.commands.specs.declared.status.Status.TheVariants.{Memory, Refused}
 
@@ -25,7 +25,7 @@ after_source source next (violated rule at) = answers refused (refused_line sour
 
 -- from the read of the source on
 unfoldable pub source_plan : (source_name kernel : List ℕ) → (ModuleOf → Plan) → Plan
-source_plan source_name kernel next = reads source_name source_limit (λ source. compiles source kernel (after_source source next))
+source_plan source_name kernel next = reads source_name source_limit (λ source. makes (a_module source kernel) (after_source source next))
 
 -- the module is written, and its line
 unfoldable pub store_plan : List ℕ → ModuleOf → Plan
@@ -36,13 +36,13 @@ compile_plan source_name kernel module_name = source_plan source_name kernel (st
 
 -- the module is written, and run by the launch; `taken` are the files that the command names
 unfoldable pub keep_plan : List (List ℕ) → (module_name launch_name : List ℕ) → ModuleOf → Plan
-keep_plan taken module_name launch_name code = writes module_name (module_bytes code) (launch_plan taken code launch_name)
+keep_plan taken module_name launch_name code = writes module_name (module_bytes code) (exec_launch_plan taken code launch_name)
 
 unfoldable pub run_plan : (source_name kernel module_name launch_name : List ℕ) → Plan
 run_plan source_name kernel module_name launch_name =
     source_plan source_name kernel (keep_plan (source_name ∷ module_name ∷ launch_name ∷ []) module_name launch_name)
 
--- a source that isn't in the profile is refused by its line, and where memory is wanting nothing is written
+-- a source that violates a rule is refused by its line, and where memory is wanting nothing is written
 abbrev pub RefusesSource : List ℕ → Refusal → SinkState → SinkState → Status → Type 0
 RefusesSource source (Rule rule at) before now result = Says before now (refused_line source rule at) Refused result
 RefusesSource source CompileMemory before now result = (now ≡ before) × (result ≡ Memory)

@@ -10,17 +10,19 @@ use Rattle.launch_file.specs.Rules.{first_fault as launch_fault}
 use Rattle.launch_file.specs.Fit.{fit_fault}
 use Rattle.vc4q_module.specs.ModuleBytes.{ModuleOf, IsModule, module_bytes}
 use Rattle.promise.specs.declared.refusal.SourceRule.{SourceRule}
-use Rattle.promise.specs.ItemMeaning.{Ended, Kernel}
-use Rattle.promise.specs.LaunchMeaning.{left_by, turns_of, IsSafe}
+use Rattle.launch_meaning.specs.declared.ends.Ended.{Ended}
+use Rattle.launch_meaning.specs.LaunchMeaning.{left_by, turns_of, IsSafe}
+use Rattle.promise.specs.Kernel.{Kernel}
 use Rattle.promise.specs.Faithful.{most_steps}
 use Rattle.commands.specs.Plan.{Ends}
-use Rattle.commands.specs.Exec.{launch_limit, launch_plan}
+use Rattle.commands.specs.Launching.{launch_limit}
+use Rattle.commands.specs.Exec.{exec_launch_plan}
 use Rattle.commands.specs.ExecClauses.{IsRunStatus, AreRead, stored, Executed, RefusedLaunch}
 use Rattle.commands.specs.Refusals.{refused_line}
 use Rattle.commands.specs.Compile.{source_limit, compiled_line}
 use Rattle.commands.specs.declared.status.Status.{Status}
 use Rattle.commands.specs.declared.status.Status.TheVariants.{Done, Memory, Usage, ReadFault, WriteFault, Missing, TooLong, Refused, BadModule, BadLaunch, Broken, Unfinished, NotSafe}
-use Rattle.promise.specs.Language.{Language}
+use Rattle.promise.specs.Language.{Language, Sources}
 use Rattle.promise.specs.Faithful.{IsFaithful}
 
 -- The source that was read is in the profile, and the module that was made of it is faithful to the kernel.
@@ -39,14 +41,14 @@ pub record Compiled (language : Language) (source_name kernel module_name : List
   pub files : now.told ≡ option_map (with_file module_name (Some (module_bytes code))) before.told
   pub line : Gains out_before out_now (compiled_line code)
 
--- The source that was read isn't in the profile. The line says which rule it violates first and where, and no file has changed.
-pub record RefusedSource (language : Language) (source_name kernel : List ℕ) (before : FilesState) (out_before : SinkState) (now : FilesState) (out_now : SinkState) : Type 0 where
+-- The source that was read violates a rule. The line says which rule it violates first and where, and no file has changed.
+pub record RefusedSource (violates_first : (source kernel : List ℕ) → SourceRule → ℕ → Type 0) (source_name kernel : List ℕ) (before : FilesState) (out_before : SinkState) (now : FilesState) (out_now : SinkState) : Type 0 where
   pub source : List ℕ
   pub rule : SourceRule
   pub at : ℕ
   pub read : Holds before source_name source
   pub short : length source ≤ source_limit
-  pub first : language.violates_first source kernel rule at
+  pub first : violates_first source kernel rule at
   pub files : now.told ≡ before.told
   pub line : Gains out_before out_now (refused_line source rule at)
 
@@ -69,7 +71,7 @@ IsEarly NotSafe = ⊥
 -- What each answer of the program's own says of a `compile`.
 pub record CompileAnswers (language : Language) (source_name kernel module_name : List ℕ) (before : FilesState) (out_before : SinkState) (now : FilesState) (out_now : SinkState) (result : Status) : Type 0 where
   pub compiled : result ≡ Done → Compiled language source_name kernel module_name before out_before now out_now
-  pub refused : result ≡ Refused → RefusedSource language source_name kernel before out_before now out_now
+  pub refused : result ≡ Refused → RefusedSource language.violates_first source_name kernel before out_before now out_now
   pub own : (result ≡ Done) ⊎ IsEarly result
 
 -- The module was executed. Where the launch is safe, no restriction is broken, and a finished run has written the buffers that the items leave
@@ -81,17 +83,17 @@ pub record Ran (language : Language) (source kernel : List ℕ) (code : ModuleOf
       → (result ≢ Broken) × (result ≡ Done → now.told ≡ option_map (stored (launch_in run.text).buffers (left_by run.buffers ended)) before.told)
 
 -- The module was written, and nothing has changed it since. From its write on the command did what `exec` does with that module.
-pub record Written (language : Language) (source_name kernel module_name launch_name : List ℕ) (before : FilesState) (out_before : SinkState) (now : FilesState) (out_now : SinkState) (result : Status) : Type 0 where
+pub record Written (sources : Sources) (source_name kernel module_name launch_name : List ℕ) (before : FilesState) (out_before : SinkState) (now : FilesState) (out_now : SinkState) (result : Status) : Type 0 where
   pub source : List ℕ
   pub code : ModuleOf
-  pub made : IsMade language source_name kernel before source code
+  pub made : IsMade sources.compiled source_name kernel before source code
   -- the files after the module's write
   pub mid : FilesState
   pub write : mid.told ≡ option_map (with_file module_name (Some (module_bytes code))) before.told
   pub kept : Holds now module_name (module_bytes code)
-  pub ran : IsRunStatus result → Ran language source kernel code (source_name ∷ module_name ∷ launch_name ∷ []) launch_name mid out_before now out_now result
-  pub bad_launch : result ≡ BadLaunch → RefusedLaunch code (source_name ∷ module_name ∷ launch_name ∷ []) launch_name mid out_before now out_now
-  pub rest : Ends language true (launch_plan (source_name ∷ module_name ∷ launch_name ∷ []) code launch_name) mid out_before now out_now result
+  pub ran : IsRunStatus result → Ran sources.compiled source kernel code (source_name ∷ module_name ∷ launch_name ∷ []) launch_name mid out_before now out_now result
+  pub bad_launch : result ≡ BadLaunch → RefusedLaunch code.kinds (source_name ∷ module_name ∷ launch_name ∷ []) launch_name mid out_before now out_now
+  pub rest : Ends sources true (exec_launch_plan (source_name ∷ module_name ∷ launch_name ∷ []) code launch_name) mid out_before now out_now result
 
 -- The module wasn't written: no file has changed, or the write of the module failed and its file may hold anything.
 pub record Unwritten (module_name : List ℕ) (before now : FilesState) (result : Status) : Type 0 where
@@ -100,9 +102,9 @@ pub record Unwritten (module_name : List ℕ) (before now : FilesState) (result 
       ⊎ (Spoils before now module_name × (Rose before.write_faults now.write_faults ⊎ Rose before.shortages now.shortages))
 
 -- What a `run` has done.
-pub record RunAnswers (language : Language) (source_name kernel module_name launch_name : List ℕ) (before : FilesState) (out_before : SinkState) (now : FilesState) (out_now : SinkState) (result : Status) : Type 0 where
-  pub refused : result ≡ Refused → RefusedSource language source_name kernel before out_before now out_now
-  pub stands : Written language source_name kernel module_name launch_name before out_before now out_now result ⊎ Unwritten module_name before now result
+pub record RunAnswers (sources : Sources) (source_name kernel module_name launch_name : List ℕ) (before : FilesState) (out_before : SinkState) (now : FilesState) (out_now : SinkState) (result : Status) : Type 0 where
+  pub refused : result ≡ Refused → RefusedSource sources.compiled.violates_first source_name kernel before out_before now out_now
+  pub stands : Written sources source_name kernel module_name launch_name before out_before now out_now result ⊎ Unwritten module_name before now result
 
 -- A `compile` with a source in the profile comes to its end, or wants memory.
 abbrev pub CompileEnds : (language : Language) (source_name kernel module_name : List ℕ) → Tree → Status → Type 0

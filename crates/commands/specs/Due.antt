@@ -3,20 +3,21 @@ use Rattle.std.specs.Prelude.{◌≡◌, ◌⊎◌, ℕ, Bool, true, false, List
 use Rattle.q_io.specs.Rose.{Rose}
 use Rattle.q_io.specs.FilesMeaning.{Tree, with_file, FilesState}
 use Rattle.q_io.specs.SinkMeaning.{SinkState}
-use Rattle.commands.specs.Plan.{Compilation, IsCompilation, Plan, reads, writes, compiles, commits, answers, status_of}
+use Rattle.launch_meaning.specs.declared.verdict.Verdict.{Verdict}
+use Rattle.promise.specs.Language.{Sources}
+use Rattle.commands.specs.Plan.{Compilation, Understanding, Wanted, a_module, a_meaning, a_verdict, MadeOf, IsMadeOf, Plan, reads, writes, makes, commits, answers, status_of}
 use Rattle.commands.specs.Lines.{Says, SaysTrouble, trouble_line, trouble_status}
 use Rattle.commands.specs.declared.status.Status.{Status}
 use Rattle.commands.specs.declared.status.Status.TheVariants.{Memory}
 use Rattle.commands.specs.declared.places.Trouble.{Trouble}
 use Rattle.commands.specs.declared.places.Trouble.TheVariants.{Missing as IsMissing, TooLong as IsTooLong, ReadFault as IsReadFault, WriteFault as IsWriteFault, Memory as IsMemory}
-use Rattle.promise.specs.Language.{Language}
 
 -- a place that the command comes to
 pub data Place : Type 0 where
   read : (name : List ℕ) → Place
   write : (name bytes : List ℕ) → Place
-  -- this is made of the source
-  compile : (source kernel : List ℕ) (made : Compilation) → Place
+  -- what is wanted is made
+  make : (wanted : Wanted) (made : MadeOf wanted) → Place
   -- from here on no memory is asked for
   commit : Place
 
@@ -37,30 +38,53 @@ abbrev pub due_read : List ℕ → ℕ → Option (List ℕ) → (List ℕ → D
 due_read name limit None next = trouble_due IsMissing name
 due_read name limit (Some bytes) next = if nat_le (length bytes) limit then then_due (read name) (next bytes) else trouble_due IsTooLong name
 
--- what is due of a plan with these files, where this is made of its sources, one after another: the first place where a name isn't there, its file
+-- something that is made
+pub data Made : Type 0 where
+  module_made : Compilation → Made
+  meaning_made : Understanding → Made
+  verdict_made : Verdict → Made
+
+-- it as what is wanted, if it is of that kind
+abbrev pub made_for : (wanted : Wanted) → Made → Option (MadeOf wanted)
+made_for (a_module source kernel) (module_made made) = Some made
+made_for (a_module source kernel) (meaning_made made) = None
+made_for (a_module source kernel) (verdict_made made) = None
+made_for (a_meaning source kernel) (module_made made) = None
+made_for (a_meaning source kernel) (meaning_made made) = Some made
+made_for (a_meaning source kernel) (verdict_made made) = None
+made_for (a_verdict item items buffers turns) (module_made made) = None
+made_for (a_verdict item items buffers turns) (meaning_made made) = None
+made_for (a_verdict item items buffers turns) (verdict_made made) = Some made
+
+-- where it isn't made, memory is wanting
+abbrev pub due_made : (wanted : Wanted) → Option (MadeOf wanted) → (MadeOf wanted → Due) → Due
+due_made wanted None next = record { places = []; status = Memory; line = [] }
+due_made wanted (Some made) next = then_due (make wanted made) (next made)
+
+-- what is due of a plan with these files, where this is made of what it wants, one after another: the first place where a name isn't there, its file
 -- passes the limit or a rule is violated, else the answer of the run. Where no more is made, memory is wanting
-abbrev pub due_of : Plan → Tree → List Compilation → Due
+abbrev pub due_of : Plan → Tree → List Made → Due
 due_of (reads name limit next) tree all = due_read name limit (tree name) (λ bytes. due_of (next bytes) tree all)
 due_of (writes name bytes next) tree all = then_due (write name bytes) (due_of next (with_file name (Some bytes) tree) all)
-due_of (compiles source kernel next) tree [] = record { places = []; status = Memory; line = [] }
-due_of (compiles source kernel next) tree (made ∷ all) = then_due (compile source kernel made) (due_of (next made) tree all)
+due_of (makes wanted next) tree [] = record { places = []; status = Memory; line = [] }
+due_of (makes wanted next) tree (made ∷ all) = due_made wanted (made_for wanted made) (λ it. due_of (next it) tree all)
 due_of (commits next) tree all = then_due commit (due_of next tree all)
 due_of (answers answer line) tree all = record { places = []; status = status_of answer; line = line }
 
--- what is made of each source is a compilation of it
-abbrev pub AreMade : Language → List Place → Type 0
-AreMade language [] = ⊤
-AreMade language (read name ∷ places) = AreMade language places
-AreMade language (write name bytes ∷ places) = AreMade language places
-AreMade language (compile source kernel made ∷ places) = IsCompilation language source kernel made × AreMade language places
-AreMade language (commit ∷ places) = AreMade language places
+-- what is made is made rightly
+abbrev pub AreMade : Sources → List Place → Type 0
+AreMade sources [] = ⊤
+AreMade sources (read name ∷ places) = AreMade sources places
+AreMade sources (write name bytes ∷ places) = AreMade sources places
+AreMade sources (make wanted made ∷ places) = IsMadeOf sources wanted made × AreMade sources places
+AreMade sources (commit ∷ places) = AreMade sources places
 
 -- the files after these places
 abbrev pub after : List Place → Tree → Tree
 after [] tree = tree
 after (read name ∷ places) tree = after places tree
 after (write name bytes ∷ places) tree = after places (with_file name (Some bytes) tree)
-after (compile source kernel made ∷ places) tree = after places tree
+after (make wanted made ∷ places) tree = after places tree
 after (commit ∷ places) tree = after places tree
 
 -- none of these places writes this file
@@ -68,7 +92,7 @@ abbrev pub spares : List ℕ → List Place → Bool
 spares name [] = true
 spares name (read other ∷ places) = spares name places
 spares name (write other bytes ∷ places) = if bytes_eq other name then false else spares name places
-spares name (compile source kernel made ∷ places) = spares name places
+spares name (make wanted made ∷ places) = spares name places
 spares name (commit ∷ places) = spares name places
 
 -- a file that none of these places writes is as it was
@@ -81,7 +105,7 @@ abbrev pub has_committed : List Place → Bool
 has_committed [] = false
 has_committed (read name ∷ places) = has_committed places
 has_committed (write name bytes ∷ places) = has_committed places
-has_committed (compile source kernel made ∷ places) = has_committed places
+has_committed (make wanted made ∷ places) = has_committed places
 has_committed (commit ∷ places) = true
 
 -- a place where a fault stopped the command, its cause and what it left of the files: a file whose write failed may hold anything
@@ -94,13 +118,13 @@ StoppedAt (write name bytes) tree before now trouble =
     ((left : Option (List ℕ)) × (now.told ≡ Some (with_file name left tree)))
     × (((trouble ≡ IsWriteFault) × Rose before.write_faults now.write_faults)
     ⊎ ((trouble ≡ IsMemory) × Rose before.shortages now.shortages))
-StoppedAt (compile source kernel made) tree before now trouble = ⊥
+StoppedAt (make wanted made) tree before now trouble = ⊥
 StoppedAt commit tree before now trouble = ⊥
 
 abbrev pub name_of : Place → List ℕ
 name_of (read name) = name
 name_of (write name bytes) = name
-name_of (compile source kernel made) = []
+name_of (make wanted made) = []
 name_of commit = []
 
 -- all places were passed, and the answer is the one that is due
@@ -136,10 +160,10 @@ EndsAsDue asks due tree before out_before now out_now result =
     ⊎ (AtFault due tree before now out_before out_now result
     ⊎ ShortOfMemory asks due tree now out_before out_now result)
 
--- how a command ends of which this is due where this is made of its sources
-abbrev pub EndsAsMade : Language → Bool → (List Compilation → Due) → Tree → FilesState → SinkState → FilesState → SinkState → Status → Type 0
-EndsAsMade language asks due tree before out_before now out_now result =
-    (all : List Compilation) × AreMade language (due all).places × EndsAsDue asks (due all) tree before out_before now out_now result
+-- how a command ends of which this is due where this is made of what it wants
+abbrev pub EndsAsMade : Sources → Bool → (List Made → Due) → Tree → FilesState → SinkState → FilesState → SinkState → Status → Type 0
+EndsAsMade sources asks due tree before out_before now out_now result =
+    (all : List Made) × AreMade sources (due all).places × EndsAsDue asks (due all) tree before out_before now out_now result
 
 -- no fault of the files or the sink came
 pub record IsQuiet (before : FilesState) (out_before : SinkState) (now : FilesState) (out_now : SinkState) : Type 0 where
@@ -147,13 +171,13 @@ pub record IsQuiet (before : FilesState) (out_before : SinkState) (now : FilesSt
   pub writes : ¬ (Rose before.write_faults now.write_faults)
   pub sink : ¬ (Rose out_before.faults out_now.faults)
 
--- the status is the one that is due with what is made of the sources, or want of memory
-abbrev pub AnswersAsMade : Language → (List Compilation → Due) → Status → Type 0
-AnswersAsMade language due result = (all : List Compilation) × AreMade language (due all).places × ((result ≡ (due all).status) ⊎ (result ≡ Memory))
+-- the status is the one that is due with what is made of what it wants, or want of memory
+abbrev pub AnswersAsMade : Sources → (List Made → Due) → Status → Type 0
+AnswersAsMade sources due result = (all : List Made) × AreMade sources (due all).places × ((result ≡ (due all).status) ⊎ (result ≡ Memory))
 
--- no file has changed but those that are due to be written with what is made of the sources
-abbrev pub OnlyWritesMade : Language → (List Compilation → Due) → Tree → FilesState → Type 0
-OnlyWritesMade language due tree now = (all : List Compilation) × AreMade language (due all).places × OnlyWrites (due all).places tree now
+-- no file has changed but those that are due to be written with what is made of what it wants
+abbrev pub OnlyWritesMade : Sources → (List Made → Due) → Tree → FilesState → Type 0
+OnlyWritesMade sources due tree now = (all : List Made) × AreMade sources (due all).places × OnlyWrites (due all).places tree now
 
 -- no file has changed, but for this one, if any, that was written
 abbrev pub KeptBut : Option (List ℕ) → FilesState → FilesState → Type 0

@@ -3,29 +3,22 @@ use Rattle.std.specs.Prelude.{◌≡◌, ℕ, List, [], ◌∷◌, ◌++◌, Opt
 use Rattle.q_io.specs.SinkMeaning.{SinkState}
 use Rattle.launch_file.specs.declared.launch.Schedule.{Schedule}
 use Rattle.launch_file.specs.declared.launch.Schedule.TheVariants.{Rounds, Seed, File}
-use Rattle.launch_file.specs.declared.launch.LaunchFault.{LaunchFault}
-use Rattle.launch_file.specs.declared.launch.LaunchFault.TheVariants.{Rule, Memory as LaunchMemory}
 use Rattle.launch_file.specs.Launches.{LaunchOf}
-use Rattle.launch_file.specs.Rules.{first_fault as launch_fault}
-use Rattle.launch_file.specs.Fit.{FaultAt, fit_fault}
 use Rattle.vc4q_module.specs.declared.fault.ModFault.{ModFault}
 use Rattle.vc4q_module.specs.declared.fault.ModFault.TheVariants.{At, Memory as ModuleMemory}
 use Rattle.vc4q_module.specs.ModuleBytes.{ModuleOf, module_in, first_fault as module_fault}
-use Rattle.commands.specs.Plan.{Plan, reads, commits, answers, bad_module, bad_launch}
-use Rattle.launch_file.specs.LaunchIn.{launch_in}
+use Rattle.commands.specs.Plan.{Plan, reads, commits, answers, bad_module}
+use Rattle.commands.specs.Launching.{launch_plan}
 use Rattle.commands.specs.Buffers.{read_buffers}
 use Rattle.commands.specs.Openings.{opening_for}
 use Rattle.commands.specs.Play.{play_plan}
 use Rattle.commands.specs.Lines.{Says}
 use Rattle.commands.specs.declared.status.Status.{Status}
-use Rattle.commands.specs.declared.status.Status.TheVariants.{Memory, BadModule, BadLaunch}
+use Rattle.commands.specs.declared.status.Status.TheVariants.{Memory, BadModule}
 
 -- 40 bytes, and 2 ^ 24 words of 8
 abbrev pub module_limit : ℕ
 module_limit = 134217768
-
-abbrev pub launch_limit : ℕ
-launch_limit = 65536
 
 abbrev pub schedule_limit : ℕ
 schedule_limit = 16777216
@@ -33,10 +26,6 @@ schedule_limit = 16777216
 -- the line of a module whose first failing test has this place
 unfoldable pub module_line : ℕ → List ℕ
 module_line place = codes "bad module " ++ (decimal place ++ codes "\n")
-
--- the line of a launch whose first violated rule is this one, at this line
-unfoldable pub launch_line : ℕ → ℕ → List ℕ
-launch_line rule line = codes "bad launch B" ++ (decimal rule ++ (codes " " ++ (decimal line ++ codes "\n")))
 
 -- the bytes of the schedule's file, of none where the schedule has no file
 abbrev pub read_schedule : Schedule → (List ℕ → Plan) → Plan
@@ -56,28 +45,14 @@ buffers_plan code launch file = read_buffers launch.buffers [] (ready_plan code 
 unfoldable pub schedule_plan : ModuleOf → LaunchOf → Plan
 schedule_plan code launch = read_schedule launch.schedule (buffers_plan code launch)
 
--- the launch fits, or this is its fault
-abbrev pub after_fit : Option FaultAt → ModuleOf → LaunchOf → Plan
-after_fit (Some fault) code launch = answers bad_launch (launch_line fault.rule fault.line)
-after_fit None code launch = schedule_plan code launch
-
--- from the fit on
-unfoldable pub fit_plan : List (List ℕ) → ModuleOf → LaunchOf → Plan
-fit_plan taken code launch = after_fit (fit_fault launch code.kinds taken) code launch
-
--- the bytes are the text of a launch, or this is their fault
-abbrev pub after_launch : Option (ℕ × ℕ) → List (List ℕ) → ModuleOf → LaunchOf → Plan
-after_launch (Some fault) taken code launch = answers bad_launch (launch_line fault.0 fault.1)
-after_launch None taken code launch = fit_plan taken code launch
-
 -- from the read of the launch on; `taken` are the files that the command names
-unfoldable pub launch_plan : List (List ℕ) → ModuleOf → List ℕ → Plan
-launch_plan taken code launch_name = reads launch_name launch_limit (λ bytes. after_launch (launch_fault bytes) taken code (launch_in bytes))
+abbrev pub exec_launch_plan : List (List ℕ) → ModuleOf → List ℕ → Plan
+exec_launch_plan taken code launch_name = launch_plan taken code.kinds launch_name (schedule_plan code)
 
 -- the bytes are those of a module, or the first failing test has this place
 abbrev pub after_module : Option ℕ → List (List ℕ) → ModuleOf → List ℕ → Plan
 after_module (Some place) taken code launch_name = answers bad_module (module_line place)
-after_module None taken code launch_name = launch_plan taken code launch_name
+after_module None taken code launch_name = exec_launch_plan taken code launch_name
 
 unfoldable pub module_plan : List (List ℕ) → List ℕ → List ℕ → Plan
 module_plan taken module_name launch_name = reads module_name module_limit (λ bytes. after_module (module_fault bytes) taken (module_in bytes) launch_name)
@@ -90,17 +65,7 @@ abbrev pub RefusesModule : ModFault → SinkState → SinkState → Status → T
 RefusesModule (At place) before now result = Says before now (module_line place) BadModule result
 RefusesModule ModuleMemory before now result = (now ≡ before) × (result ≡ Memory)
 
--- a launch with a fault is refused by its line, and where memory is wanting nothing is written
-abbrev pub RefusesLaunch : LaunchFault → SinkState → SinkState → Status → Type 0
-RefusesLaunch (Rule rule line) before now result = Says before now (launch_line rule line) BadLaunch result
-RefusesLaunch LaunchMemory before now result = (now ≡ before) × (result ≡ Memory)
-
 -- a module isn't read because of the fault that it has, or for want of memory
 abbrev pub IsModuleFault : Option ℕ → ModFault → Type 0
 IsModuleFault there (At place) = there ≡ Some place
 IsModuleFault there ModuleMemory = ⊤
-
--- a launch isn't read because of the fault that it has, or for want of memory
-abbrev pub IsLaunchFault : Option (ℕ × ℕ) → LaunchFault → Type 0
-IsLaunchFault there (Rule rule line) = there ≡ Some (rule, line)
-IsLaunchFault there LaunchMemory = ⊤

@@ -20,7 +20,8 @@ use Rattle.promise.specs.Faithful.{buffers_of}
 use Rattle.commands.specs.Buffers.{filled}
 use Rattle.commands.specs.Openings.{opening_for}
 use Rattle.commands.specs.Play.{answer_of, ran}
-use Rattle.commands.specs.Exec.{schedule_limit, module_line, launch_line}
+use Rattle.commands.specs.Exec.{schedule_limit, module_line}
+use Rattle.commands.specs.Launching.{launch_line}
 use Rattle.commands.specs.declared.status.Status.{Status}
 use Rattle.commands.specs.declared.status.Status.TheVariants.{Done, Memory, Usage, ReadFault, WriteFault, Missing, TooLong, Refused, BadModule, BadLaunch, Broken, Unfinished, NotSafe}
 
@@ -109,13 +110,13 @@ IsFaultOf text kinds taken rule line =
     (launch_fault text ≡ Some (rule, line))
     ⊎ ((launch_fault text ≡ None) × (fit_fault (launch_in text) kinds taken ≡ Some (record { rule = rule; line = line })))
 
--- The launch's file violates a rule, by itself or with this module and these names, and the line says which and where.
-pub record RefusedLaunch (code : ModuleOf) (taken : List (List ℕ)) (launch_name : List ℕ) (before : FilesState) (out_before : SinkState) (now : FilesState) (out_now : SinkState) : Type 0 where
+-- The launch's file violates a rule, by itself or with these kinds of parameters and these names, and the line says which and where.
+pub record RefusedLaunch (kinds : List Kind) (taken : List (List ℕ)) (launch_name : List ℕ) (before : FilesState) (out_before : SinkState) (now : FilesState) (out_now : SinkState) : Type 0 where
   pub text : List ℕ
   pub rule : ℕ
   pub at : ℕ
   pub read : Holds before launch_name text
-  pub fault : IsFaultOf text code.kinds taken rule at
+  pub fault : IsFaultOf text kinds taken rule at
   pub files : now.told ≡ before.told
   pub line : Gains out_before out_now (launch_line rule at)
 
@@ -130,4 +131,4 @@ pub record ExecAnswers (module_name launch_name : List ℕ) (before : FilesState
       → (code : ModuleOf) × IsReadModule module_name before code × Executed code (module_name ∷ launch_name ∷ []) launch_name before out_before now out_now result
   pub bad_module : result ≡ BadModule → RefusedModule module_name before out_before now out_now
   pub bad_launch : result ≡ BadLaunch
-      → (code : ModuleOf) × IsReadModule module_name before code × RefusedLaunch code (module_name ∷ launch_name ∷ []) launch_name before out_before now out_now
+      → (code : ModuleOf) × IsReadModule module_name before code × RefusedLaunch code.kinds (module_name ∷ launch_name ∷ []) launch_name before out_before now out_now

@@ -6,9 +6,12 @@ pub mod Report
 pub mod Buffers
 pub mod Play
 pub mod Openings
+pub mod Launching
 pub mod Exec
 pub mod Refusals
 pub mod Compile
+pub mod Judge
 pub mod ExecClauses
 pub mod CompileClauses
+pub mod JudgeClauses
 pub mod Commands

@@ -4,14 +4,17 @@ use Rattle.q_io.specs.Rose.{Rose}
 use Rattle.q_io.specs.FilesMeaning.{FilesState, FilesCountsStay, Holds, Lacks, Passes, Spoils, with_file}
 use Rattle.q_io.specs.SinkMeaning.{SinkState}
 use Rattle.vc4q_module.specs.ModuleBytes.{ModuleOf, IsModule}
+use Rattle.launch_meaning.specs.declared.verdict.Verdict.{Verdict}
+use Rattle.launch_meaning.specs.LaunchMeaning.{Item, IsVerdict}
 use Rattle.promise.specs.declared.refusal.SourceRule.{SourceRule}
+use Rattle.promise.specs.Kernel.{Meaning}
+use Rattle.promise.specs.Language.{Language, Meanings, Sources}
+use Rattle.promise.specs.Faithful.{IsFaithful}
 use Rattle.commands.specs.Lines.{Says, SaysTrouble}
 use Rattle.commands.specs.declared.status.Status.{Status}
-use Rattle.commands.specs.declared.status.Status.TheVariants.{Done, Memory, Refused, BadModule, BadLaunch, Broken, Unfinished}
+use Rattle.commands.specs.declared.status.Status.TheVariants.{Done, Memory, Refused, BadModule, BadLaunch, Broken, Unfinished, NotSafe}
 use Rattle.commands.specs.declared.places.Trouble.{Trouble}
 use Rattle.commands.specs.declared.places.Trouble.TheVariants.{Missing as IsMissing, TooLong as IsTooLong, ReadFault as IsReadFault, WriteFault as IsWriteFault, Memory as IsMemory}
-use Rattle.promise.specs.Language.{Language}
-use Rattle.promise.specs.Faithful.{IsFaithful}
 
 -- the answers of a command that met no trouble at its places
 pub data Answer : Type 0 where
@@ -21,6 +24,7 @@ pub data Answer : Type 0 where
   bad_launch : Answer
   broken : Answer
   unfinished : Answer
+  not_safe : Answer
 
 abbrev pub status_of : Answer → Status
 status_of done = Done
@@ -29,20 +33,62 @@ status_of bad_module = BadModule
 status_of bad_launch = BadLaunch
 status_of broken = Broken
 status_of unfinished = Unfinished
+status_of not_safe = NotSafe
 
 -- what is made of a source: a module, or none, since this rule is violated at this byte
 pub data Compilation : Type 0 where
   compiled : (code : ModuleOf) → Compilation
   violated : (rule : SourceRule) (at : ℕ) → Compilation
 
+-- what a kernel of a source means, or that this rule is violated at this byte
+pub data Understanding : Type 0 where
+  understood : (meaning : Meaning) → Understanding
+  refuted : (rule : SourceRule) (at : ℕ) → Understanding
+
 -- a module is one and is faithful to the kernel of that name in the source, and a rule is the first that is violated
 abbrev pub IsCompilation : (language : Language) (source kernel : List ℕ) → Compilation → Type 0
 IsCompilation language source kernel (compiled code) = IsModule code × IsFaithful language source kernel code
 IsCompilation language source kernel (violated rule at) = language.violates_first source kernel rule at
 
--- no source means anything. What compiles nothing is said of it
+-- the kernel of that name in the source has the meaning, and a rule is the first that is violated
+abbrev pub IsUnderstanding : (meanings : Meanings) (source kernel : List ℕ) → Understanding → Type 0
+IsUnderstanding meanings source kernel (understood meaning) = meanings.means source kernel meaning
+IsUnderstanding meanings source kernel (refuted rule at) = meanings.violates_first source kernel rule at
+
+-- no source compiles, and none means anything
 abbrev pub no_language : Language
 no_language = record { in_profile = λ source name. ⊥; has_kernel = λ source name kernel. ⊥; violates_first = λ source name rule at. ⊥ }
+
+abbrev pub no_meanings : Meanings
+no_meanings = record { means = λ source name meaning. ⊥; violates_first = λ source name rule at. ⊥ }
+
+abbrev pub both : Language → Meanings → Sources
+both language meanings = record { compiled = language; judged = meanings }
+
+-- what neither compiles nor judges is said of these
+abbrev pub no_sources : Sources
+no_sources = both no_language no_meanings
+
+-- what a command wants to be made of what it has read
+pub data Wanted : Type 0 where
+  -- a module of the kernel of that name in a source
+  a_module : (source kernel : List ℕ) → Wanted
+  -- what that kernel means
+  a_meaning : (source kernel : List ℕ) → Wanted
+  -- the verdict on a launch of so many items
+  a_verdict : (item : Item) (items : ℕ) (buffers : List (List ℕ)) (turns : ℕ) → Wanted
+
+-- what is made then
+abbrev pub MadeOf : Wanted → Type 0
+MadeOf (a_module source kernel) = Compilation
+MadeOf (a_meaning source kernel) = Understanding
+MadeOf (a_verdict item items buffers turns) = Verdict
+
+-- it is made rightly
+abbrev pub IsMadeOf : Sources → (wanted : Wanted) → MadeOf wanted → Type 0
+IsMadeOf sources (a_module source kernel) made = IsCompilation sources.compiled source kernel made
+IsMadeOf sources (a_meaning source kernel) made = IsUnderstanding sources.judged source kernel made
+IsMadeOf sources (a_verdict item items buffers turns) made = IsVerdict item items buffers turns made
 
 -- what a command has still to do
 pub data Plan : Type 0 where
@@ -50,8 +96,8 @@ pub data Plan : Type 0 where
   reads : (name : List ℕ) (limit : ℕ) (next : List ℕ → Plan) → Plan
   -- it writes a file
   writes : (name bytes : List ℕ) (next : Plan) → Plan
-  -- it compiles the kernel of that name in a source, and goes on with what is made of it
-  compiles : (source kernel : List ℕ) (next : Compilation → Plan) → Plan
+  -- it makes what it wants, and goes on with that
+  makes : (wanted : Wanted) (next : MadeOf wanted → Plan) → Plan
   -- from here on it asks for no memory: the machine's first step, or the write of a module that isn't run
   commits : (next : Plan) → Plan
   -- it writes its line and ends
@@ -109,27 +155,27 @@ pub record GivesUp (asks : Bool) (before now : FilesState) (out_before out_now :
   pub files : now ≡ before
   pub out : out_now ≡ out_before
 
--- A run of what is still to do, from these files and this sink to those, with this result. What is made of a source is a compilation of it in the language.
-abbrev pub Ends : Language → Bool → Plan → FilesState → SinkState → FilesState → SinkState → Status → Type 0
-Ends language asks (reads name limit next) before out_before now out_now result =
+-- A run of what is still to do, from these files and this sink to those, with this result
+abbrev pub Ends : Sources → Bool → Plan → FilesState → SinkState → FilesState → SinkState → Status → Type 0
+Ends sources asks (reads name limit next) before out_before now out_now result =
     GivesUp asks before now out_before out_now result
     ⊎ (StopsAtRead before now out_before out_now name limit result
-    ⊎ ((bytes : List ℕ) × (mid : FilesState) × HasRead before mid name limit bytes × Ends language asks (next bytes) mid out_before now out_now result))
-Ends language asks (writes name bytes next) before out_before now out_now result =
+    ⊎ ((bytes : List ℕ) × (mid : FilesState) × HasRead before mid name limit bytes × Ends sources asks (next bytes) mid out_before now out_now result))
+Ends sources asks (writes name bytes next) before out_before now out_now result =
     GivesUp asks before now out_before out_now result
     ⊎ (StopsAtWrite before now out_before out_now name result
-    ⊎ ((mid : FilesState) × HasWritten before mid name bytes × Ends language asks next mid out_before now out_now result))
-Ends language asks (compiles source kernel next) before out_before now out_now result =
+    ⊎ ((mid : FilesState) × HasWritten before mid name bytes × Ends sources asks next mid out_before now out_now result))
+Ends sources asks (makes wanted next) before out_before now out_now result =
     GivesUp asks before now out_before out_now result
-    ⊎ ((made : Compilation) × IsCompilation language source kernel made × Ends language asks (next made) before out_before now out_now result)
-Ends language asks (commits next) before out_before now out_now result =
+    ⊎ ((made : MadeOf wanted) × IsMadeOf sources wanted made × Ends sources asks (next made) before out_before now out_now result)
+Ends sources asks (commits next) before out_before now out_now result =
     GivesUp asks before now out_before out_now result
-    ⊎ Ends language false next before out_before now out_now result
-Ends language asks (answers answer line) before out_before now out_now result =
+    ⊎ Ends sources false next before out_before now out_now result
+Ends sources asks (answers answer line) before out_before now out_now result =
     GivesUp asks before now out_before out_now result
     ⊎ ((now ≡ before) × Says out_before out_now line (status_of answer) result)
 
 -- each end of a run of the rest is an end of a run of the plan
-abbrev pub Leads : Language → Bool → Plan → FilesState → SinkState → Plan → FilesState → SinkState → Type 0
-Leads language asks plan before out_before rest mid out_mid =
-    (now : FilesState) (out_now : SinkState) (result : Status) → Ends language asks rest mid out_mid now out_now result → Ends language asks plan before out_before now out_now result
+abbrev pub Leads : Sources → Bool → Plan → FilesState → SinkState → Plan → FilesState → SinkState → Type 0
+Leads sources asks plan before out_before rest mid out_mid =
+    (now : FilesState) (out_now : SinkState) (result : Status) → Ends sources asks rest mid out_mid now out_now result → Ends sources asks plan before out_before now out_now result

@@ -1,4 +1,4 @@
--- The line of a source that isn't in the profile.
+-- The line of a source that violates a rule.
 use Rattle.std.specs.Prelude.{ℕ, ◌+◌, List, ◌++◌, length, take, reverse, codes, decimal, not, ◌==◌}
 use Rattle.std.specs.List.{filter, prefix_len}
 use Rattle.promise.specs.declared.refusal.SourceRule.{SourceRule}

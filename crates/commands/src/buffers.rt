@@ -2,7 +2,7 @@
 
 ghost use Rattle.std.specs.Prelude.{◌≡◌, ◌≤◌, [], true, false, length, map, List, ℕ, vec_len, All, IfOk, IfErr, OnOk};
 ghost use Rattle.launch_file.specs.Layout.{buffer_lens};
-ghost use Rattle.commands.specs.Plan.{no_language, Plan, Ends, Leads};
+ghost use Rattle.commands.specs.Plan.{no_sources, Plan, Ends, Leads};
 ghost use Rattle.commands.specs.Buffers.{filled, read_buffer, read_buffers, write_buffer, write_buffers, HasTextNames};
 ghost use Rattle.qpu_machine.specs.Reachable.{AreBytes};
 ghost use Rattle.promise.specs.Openings.{AreAllBytes};
@@ -42,12 +42,12 @@ fn fill_buffer<F: Files, S: Sink>(
 ) -> Result<Text, Status>
     requires { HasTextNames line.now }
     ensures ok { IfOk result (λ bytes. (next : List ℕ → Plan)
-        → Leads no_language true (read_buffer line.now next) (F.state files.old) (S.state out.old)
+        → Leads no_sources true (read_buffer line.now next) (F.state files.old) (S.state out.old)
         (next bytes) (F.state files.new) (S.state out.new)) }
     ensures size { IfOk result (λ bytes. length bytes ≡ line.now.size) }
     ensures bytes { IfOk result AreBytes }
     ensures err { IfErr result (λ status. (next : List ℕ → Plan)
-        → Ends no_language true (read_buffer line.now next) (F.state files.old) (S.state out.old)
+        → Ends no_sources true (read_buffer line.now next) (F.state files.old) (S.state out.old)
         (F.state files.new) (S.state out.new) status) }
 {
     match &line.from {
@@ -70,10 +70,10 @@ pub fn fill_buffers<F: Files, S: Sink>(
     ensures sizes { IfOk result (λ buffers. map length buffers.items ≡ buffer_lens lines.now) }
     ensures bytes { IfOk result (λ buffers. AreAllBytes buffers.items) }
     ensures ok { IfOk result (λ buffers. (next : List (List ℕ) → Plan)
-        → Leads no_language true (read_buffers lines.now [] next) (F.state files.old) (S.state out.old)
+        → Leads no_sources true (read_buffers lines.now [] next) (F.state files.old) (S.state out.old)
         (next buffers.items) (F.state files.new) (S.state out.new)) }
     ensures err { IfErr result (λ status. (next : List (List ℕ) → Plan)
-        → Ends no_language true (read_buffers lines.now [] next) (F.state files.old) (S.state out.old)
+        → Ends no_sources true (read_buffers lines.now [] next) (F.state files.old) (S.state out.old)
         (F.state files.new) (S.state out.new) status) }
 {
     let mut buffers = Vec::new(alloc);
@@ -99,10 +99,10 @@ fn store_buffer<F: Files, S: Sink>(
 ) -> Result<(), Status>
     requires { HasTextNames line.now }
     ensures ok { OnOk result ((next : Plan)
-        → Leads no_language false (write_buffer line.now bytes.now next) (F.state files.old) (S.state out.old)
+        → Leads no_sources false (write_buffer line.now bytes.now next) (F.state files.old) (S.state out.old)
         next (F.state files.new) (S.state out.new)) }
     ensures err { IfErr result (λ status. (next : Plan)
-        → Ends no_language false (write_buffer line.now bytes.now next) (F.state files.old) (S.state out.old)
+        → Ends no_sources false (write_buffer line.now bytes.now next) (F.state files.old) (S.state out.old)
         (F.state files.new) (S.state out.new) status) }
 {
     match &line.to {
@@ -125,10 +125,10 @@ pub fn store_buffers<F: Files, S: Sink>(
     requires same { length lines.now ≡ length machine.now.fixed.buffers }
     requires few { length lines.now ≤ 16 }
     ensures ok { OnOk result ((next : Plan)
-        → Leads no_language false (write_buffers lines.now (buffers_of machine.now) next) (F.state files.old) (S.state out.old)
+        → Leads no_sources false (write_buffers lines.now (buffers_of machine.now) next) (F.state files.old) (S.state out.old)
         next (F.state files.new) (S.state out.new)) }
     ensures err { IfErr result (λ status. (next : Plan)
-        → Ends no_language false (write_buffers lines.now (buffers_of machine.now) next) (F.state files.old) (S.state out.old)
+        → Ends no_sources false (write_buffers lines.now (buffers_of machine.now) next) (F.state files.old) (S.state out.old)
         (F.state files.new) (S.state out.new) status) }
 {
     for i in 0..lines.len() {

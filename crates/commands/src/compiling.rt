@@ -2,7 +2,7 @@
 
 ghost use Rattle.std.specs.Prelude.{◌≡◌, true, false, IfOk, IfErr};
 ghost use Rattle.vc4q_module.specs.ModuleBytes.{ModuleOf, IsModule, module_bytes};
-ghost use Rattle.commands.specs.Plan.{no_language, Plan, Ends, Leads, writes, answers, done};
+ghost use Rattle.commands.specs.Plan.{no_meanings, no_sources, both, Plan, Ends, Leads, writes, answers, done};
 ghost use Rattle.commands.specs.Compile.{compiled_line, source_plan, store_plan, compile_plan, RefusesSource};
 
 use crate::lines::{Line, push_number, push_text};
@@ -15,7 +15,8 @@ use q_io::{Files, Sink};
 use std::alloc::Global;
 use vc4q_module::Module;
 
-const SOURCE_LIMIT: u64 = 1_048_576;
+/// The most bytes of a source file.
+pub const SOURCE_LIMIT: u64 = 1_048_576;
 
 /// The line of a module that was written.
 #[tactic(auto, unfolding(crate::specs::Compile::compiled_line))]
@@ -31,8 +32,8 @@ fn line_of_module(module: &Module) -> Line
     line
 }
 
-/// Ends where no module is made of the source.
-fn refuse_source<S: Sink>(out: &mut S, source: &[u8], refusal: Refusal) -> Status
+/// Ends where the source violates a rule, or memory was wanting.
+pub fn refuse_source<S: Sink>(out: &mut S, source: &[u8], refusal: Refusal) -> Status
     ensures { RefusesSource source.now refusal (S.state out.old) (S.state out.new) result }
 {
     match refusal {
@@ -54,10 +55,10 @@ pub fn make_module<C: Compiler, F: Files, S: Sink>(
 ) -> Result<Module, Status>
     ensures limits { IfOk result IsModule }
     ensures ok { IfOk result (λ m. (next : ModuleOf → Plan)
-        → Leads C.language true (source_plan source_name.now kernel.now next) (F.state files.old) (S.state out.old)
+        → Leads (both C.language no_meanings) true (source_plan source_name.now kernel.now next) (F.state files.old) (S.state out.old)
         (next m) (F.state files.new) (S.state out.new)) }
     ensures err { IfErr result (λ status. (next : ModuleOf → Plan)
-        → Ends C.language true (source_plan source_name.now kernel.now next) (F.state files.old) (S.state out.old)
+        → Ends (both C.language no_meanings) true (source_plan source_name.now kernel.now next) (F.state files.old) (S.state out.old)
         (F.state files.new) (S.state out.new) status) }
 {
     let source = match read_place(files, source_name, SOURCE_LIMIT) {
@@ -78,7 +79,7 @@ fn store_bytes<F: Files, S: Sink>(
     files: &mut F,
     out: &mut S,
 ) -> Status
-    ensures { Ends no_language false (writes module_name.now bytes.now (answers done (compiled_line «module».now)))
+    ensures { Ends no_sources false (writes module_name.now bytes.now (answers done (compiled_line «module».now)))
         (F.state files.old) (S.state out.old) (F.state files.new) (S.state out.new) result }
 {
     match write_place(files, module_name, bytes) {
@@ -96,7 +97,7 @@ fn store_module<F: Files, S: Sink>(
     files: &mut F,
     out: &mut S,
 ) -> Status
-    ensures { Ends no_language true (store_plan module_name.now «module».now)
+    ensures { Ends no_sources true (store_plan module_name.now «module».now)
         (F.state files.old) (S.state out.old) (F.state files.new) (S.state out.new) result }
 {
     match vc4q_module::write(alloc, module) {
@@ -115,7 +116,7 @@ pub fn compile_file<C: Compiler, F: Files, S: Sink>(
     files: &mut F,
     out: &mut S,
 ) -> Status
-    ensures { Ends C.language true (compile_plan source_name.now kernel.now module_name.now)
+    ensures { Ends (both C.language no_meanings) true (compile_plan source_name.now kernel.now module_name.now)
         (F.state files.old) (S.state out.old) (F.state files.new) (S.state out.new) result }
 {
     match make_module::<C, F, S>(alloc, source_name, kernel, files, out) {

@@ -1,32 +1,31 @@
 //! The command `exec`: a module is run on the buffers of a launch.
 
-ghost use Rattle.std.specs.Prelude.{◌≡◌, ◌≤◌, ◌∷◌, [], true, ℕ, List, length, map, IfOk, IfErr};
+ghost use Rattle.std.specs.Prelude.{◌≡◌, [], true, ℕ, List, length, map, IfOk, IfErr};
 ghost use Rattle.launch_file.specs.Layout.{buffer_lens};
 ghost use Rattle.launch_file.specs.Laws.{Fits};
 ghost use Rattle.promise.specs.Openings.{AreAllBytes};
 ghost use Rattle.vc4q_module.specs.ModuleBytes.{IsModule};
 ghost use Rattle.q_io.specs.FilesMeaning.{FilesState};
-ghost use Rattle.commands.specs.Plan.{no_language, Plan, Ends, Leads};
+ghost use Rattle.commands.specs.Plan.{no_sources, Plan, Ends, Leads};
 ghost use Rattle.commands.specs.Buffers.{HasTextFile};
-ghost use Rattle.commands.specs.Exec.{module_line, launch_line, read_schedule, ready_plan, buffers_plan, schedule_plan, fit_plan, launch_plan, module_plan, exec_plan, RefusesModule, RefusesLaunch};
+ghost use Rattle.commands.specs.Exec.{module_line, read_schedule, ready_plan, buffers_plan, schedule_plan, exec_launch_plan, module_plan, exec_plan, RefusesModule};
 
 use crate::buffers::fill_buffers;
+use crate::launching::fill_launch;
 use crate::lines::{Line, push_number, push_text};
-use crate::names::text_of;
+use crate::names::{text_of, two_names};
 use crate::opening::open;
 use crate::places::{read_place, say, say_trouble};
 use crate::playing::{Ready, play};
 use crate::status::Status;
 use arrayvec::ArrayVec;
-use launch_file::{Launch, LaunchFault, Schedule, fit, read_launch};
+use launch_file::{Launch, Schedule};
 use q_io::{Files, Sink, Text};
-use std::alloc::{AllocError, Global};
+use std::alloc::Global;
 use vc4q_module::{ModFault, Module};
 
 /// 40 bytes, and 2^24 words of 8.
 const MODULE_LIMIT: u64 = 134_217_768;
-
-const LAUNCH_LIMIT: u64 = 65_536;
 
 const SCHEDULE_LIMIT: u64 = 16_777_216;
 
@@ -42,20 +41,6 @@ fn line_of_module(place: u32) -> Line
     line
 }
 
-/// The line of a launch that violates this rule at this line.
-#[tactic(auto, unfolding(crate::specs::Exec::launch_line))]
-fn line_of_launch(rule: u8, at: u32) -> Line
-    ensures { result.items ≡ launch_line rule at }
-{
-    let mut line = ArrayVec::new();
-    push_text(&mut line, b"bad launch B");
-    push_number(&mut line, u64::from(rule));
-    push_text(&mut line, b" ");
-    push_number(&mut line, u64::from(at));
-    push_text(&mut line, b"\n");
-    line
-}
-
 /// Ends where the module isn't read.
 fn refuse_module<S: Sink>(out: &mut S, fault: ModFault) -> Status
     ensures { RefusesModule fault (S.state out.old) (S.state out.new) result }
@@ -64,28 +49,6 @@ fn refuse_module<S: Sink>(out: &mut S, fault: ModFault) -> Status
         ModFault::At(place) => say(out, &line_of_module(place), Status::BadModule),
         ModFault::Memory => Status::Memory,
     }
-}
-
-/// Ends where the launch isn't read, or doesn't fit.
-fn refuse_launch<S: Sink>(out: &mut S, fault: LaunchFault) -> Status
-    ensures { RefusesLaunch fault (S.state out.old) (S.state out.new) result }
-{
-    match fault {
-        LaunchFault::Rule { rule, line } => {
-            say(out, &line_of_launch(rule, line), Status::BadLaunch)
-        }
-        LaunchFault::Memory => Status::Memory,
-    }
-}
-
-/// The names that a command has, which no buffer may be written to.
-fn names_of(alloc: Global, one: &str, other: &str) -> Result<Vec<Text>, AllocError>
-    ensures { IfOk result (λ names. names.items ≡ one.now ∷ other.now ∷ []) }
-{
-    let mut names = Vec::with_capacity(alloc, 2)?;
-    names.push(Text::from_slice(alloc, one.as_bytes())?)?;
-    names.push(Text::from_slice(alloc, other.as_bytes())?)?;
-    Ok(names)
 }
 
 /// Takes the machine's memory, and plays.
@@ -103,7 +66,7 @@ fn exec_ready<F: Files, S: Sink>(
     requires fits { Fits launch «module».kinds [] }
     requires sizes { map length buffers.now ≡ buffer_lens launch.buffers }
     requires bytes { AreAllBytes buffers.now }
-    ensures { Ends no_language true (ready_plan «module» launch file.items buffers.now)
+    ensures { Ends no_sources true (ready_plan «module» launch file.items buffers.now)
         (F.state files.old) (S.state out.old) (F.state files.new) (S.state out.new) result }
 {
     match open(alloc, module, &launch, buffers) {
@@ -132,7 +95,7 @@ fn exec_buffers<F: Files, S: Sink>(
 ) -> Status
     requires code { IsModule «module» }
     requires fits { Fits launch «module».kinds [] }
-    ensures { Ends no_language true (buffers_plan «module» launch file.items)
+    ensures { Ends no_sources true (buffers_plan «module» launch file.items)
         (F.state files.old) (S.state out.old) (F.state files.new) (S.state out.new) result }
 {
     match fill_buffers(alloc, &launch.buffers, files, out) {
@@ -150,10 +113,10 @@ fn fill_schedule<F: Files, S: Sink>(
 ) -> Result<Vec<u8>, Status>
     requires { HasTextFile schedule.now }
     ensures ok { IfOk result (λ file. (next : List ℕ → Plan)
-        → Leads no_language true (read_schedule schedule.now next) (F.state files.old) (S.state out.old)
+        → Leads no_sources true (read_schedule schedule.now next) (F.state files.old) (S.state out.old)
         (next file.items) (F.state files.new) (S.state out.new)) }
     ensures err { IfErr result (λ status. (next : List ℕ → Plan)
-        → Ends no_language true (read_schedule schedule.now next) (F.state files.old) (S.state out.old)
+        → Ends no_sources true (read_schedule schedule.now next) (F.state files.old) (S.state out.old)
         (F.state files.new) (S.state out.new) status) }
 {
     match schedule {
@@ -179,7 +142,7 @@ fn exec_schedule<F: Files, S: Sink>(
 ) -> Status
     requires code { IsModule «module» }
     requires fits { Fits launch «module».kinds [] }
-    ensures { Ends no_language true (schedule_plan «module» launch)
+    ensures { Ends no_sources true (schedule_plan «module» launch)
         (F.state files.old) (S.state out.old) (F.state files.new) (S.state out.new) result }
 {
     match fill_schedule(alloc, &launch.schedule, files, out) {
@@ -188,29 +151,7 @@ fn exec_schedule<F: Files, S: Sink>(
     }
 }
 
-/// From the fit of a launch on.
-#[tactic(auto, unfolding(crate::specs::Exec::fit_plan))]
-fn exec_fit<F: Files, S: Sink>(
-    alloc: Global,
-    module: Module,
-    launch: Launch,
-    taken: &[Text],
-    files: &mut F,
-    out: &mut S,
-) -> Status
-    requires code { IsModule «module» }
-    requires args { length launch.args ≤ 65536 }
-    ensures { Ends no_language true (fit_plan taken.now «module» launch)
-        (F.state files.old) (S.state out.old) (F.state files.new) (S.state out.new) result }
-{
-    match fit(&launch, &module.kinds, taken) {
-        Ok(()) => exec_schedule(alloc, module, launch, files, out),
-        Err(fault) => refuse_launch(out, fault),
-    }
-}
-
 /// From the read of the launch on. `taken` are the files that the command names.
-#[tactic(auto, unfolding(crate::specs::Exec::launch_plan))]
 pub fn exec_launch<F: Files, S: Sink>(
     alloc: Global,
     module: Module,
@@ -220,16 +161,12 @@ pub fn exec_launch<F: Files, S: Sink>(
     out: &mut S,
 ) -> Status
     requires { IsModule «module» }
-    ensures { Ends no_language true (launch_plan taken.now «module» launch_name.now)
+    ensures { Ends no_sources true (exec_launch_plan taken.now «module» launch_name.now)
         (F.state files.old) (S.state out.old) (F.state files.new) (S.state out.new) result }
 {
-    let bytes = match read_place(files, launch_name, LAUNCH_LIMIT) {
-        Ok(bytes) => bytes,
-        Err(trouble) => return say_trouble(out, trouble, launch_name),
-    };
-    match read_launch(alloc, &bytes) {
-        Ok(launch) => exec_fit(alloc, module, launch, taken, files, out),
-        Err(fault) => refuse_launch(out, fault),
+    match fill_launch(alloc, &module.kinds, taken, launch_name, files, out) {
+        Ok(launch) => exec_schedule(alloc, module, launch, files, out),
+        Err(status) => status,
     }
 }
 
@@ -243,7 +180,7 @@ fn exec_module<F: Files, S: Sink>(
     files: &mut F,
     out: &mut S,
 ) -> Status
-    ensures { Ends no_language true (module_plan taken.now module_name.now launch_name.now)
+    ensures { Ends no_sources true (module_plan taken.now module_name.now launch_name.now)
         (F.state files.old) (S.state out.old) (F.state files.new) (S.state out.new) result }
 {
     let bytes = match read_place(files, module_name, MODULE_LIMIT) {
@@ -265,10 +202,10 @@ pub fn exec<F: Files, S: Sink>(
     files: &mut F,
     out: &mut S,
 ) -> Status
-    ensures { Ends no_language true (exec_plan module_name.now launch_name.now)
+    ensures { Ends no_sources true (exec_plan module_name.now launch_name.now)
         (F.state files.old) (S.state out.old) (F.state files.new) (S.state out.new) result }
 {
-    match names_of(alloc, module_name, launch_name) {
+    match two_names(alloc, module_name, launch_name) {
         Ok(taken) => exec_module(alloc, &taken, module_name, launch_name, files, out),
         Err(_) => Status::Memory,
     }

@@ -1,22 +1,25 @@
-//! The commands of the program over any compiler, any files and any output.
+//! The commands of the program over any compiler, any judge of launches, any files and any output.
 #![tactic(auto)]
 
 ghost use Rattle.std.specs.Prelude.{◌≡◌, ◌⊎◌, true, map, string_bytes, IfSome, None};
 ghost use Rattle.q_io.specs.Rose.{Rose};
-ghost use Rattle.commands.specs.Commands.{plan_of, due_for, usage_line, Runs, first_written, IfCompile, IfExec, IfRun};
+ghost use Rattle.commands.specs.Plan.{both};
+ghost use Rattle.commands.specs.Commands.{plan_of, due_for, usage_line, Runs, first_written, IfCompile, IfExec, IfRun, IfJudge};
 ghost use Rattle.commands.specs.Due.{EndsAsMade, AnswersAsMade, OnlyWritesMade, IsQuiet, ShortOrKept};
 ghost use Rattle.commands.specs.Lines.{Says};
 ghost use Rattle.commands.specs.ExecClauses.{ExecAnswers};
 ghost use Rattle.commands.specs.CompileClauses.{CompileAnswers, RunAnswers, CompileEnds, CompileRefuses, RunEnds, RunRefuses};
+ghost use Rattle.commands.specs.JudgeClauses.{JudgeAnswers, JudgeEnds, JudgeRefuses};
 
 use crate::command::{Command, command_of};
 use crate::compiling::compile_file;
 use crate::exec::exec;
+use crate::judging::judge_file;
 use crate::places::say;
 pub use crate::playing::{Ready, play};
 use crate::running::run_file;
 pub use crate::status::{Status, code};
-use promise::Compiler;
+use promise::{Compiler, JudgedKernel};
 use q_io::{Files, Sink};
 use std::alloc::Global;
 
@@ -24,6 +27,8 @@ mod buffers;
 mod command;
 mod compiling;
 mod exec;
+mod judging;
+mod launching;
 mod lines;
 mod names;
 mod opening;
@@ -44,13 +49,13 @@ fn say_usage<S: Sink>(out: &mut S) -> Status
     say(out, USAGE, Status::Usage)
 }
 
-fn run_words<C: Compiler, F: Files, S: Sink>(
+fn run_words<C: Compiler, K: JudgedKernel + Drop, F: Files, S: Sink>(
     alloc: Global,
     words: &[String],
     files: &mut F,
     out: &mut S,
 ) -> Status
-    ensures { Runs C.language (plan_of (map string_bytes words.now))
+    ensures { Runs (both C.language K.meanings) (plan_of (map string_bytes words.now))
         (F.state files.old) (S.state out.old) (F.state files.new) (S.state out.new) result }
 {
     match command_of(words) {
@@ -83,17 +88,27 @@ fn run_words<C: Compiler, F: Files, S: Sink>(
             files,
             out,
         ),
+        Some(
+            Command::Judge {
+                source_name,
+                kernel,
+                launch_name,
+                turns,
+            },
+        ) => judge_file::<K, F, S>(alloc, source_name, kernel, launch_name, turns, files, out),
         None => say_usage(out),
     }
 }
 
-/// Does what the words ask for with this compiler, and answers how it went.
+/// Does what the words ask for with this compiler and this judge, and answers how it went.
 ///
 /// `compile SRC KERNEL MODULE` makes a module of a source and writes it. `exec MODULE LAUNCH` runs a
 /// module by a launch, writes the buffers with an output name and then the report of the run.
-/// `run SRC KERNEL MODULE LAUNCH` does the one after the other. All memory is taken before the
-/// machine's first step.
-pub fn run<C: Compiler, F: Files, S: Sink>(
+/// `run SRC KERNEL MODULE LAUNCH` does the one after the other. `judge SRC KERNEL LAUNCH TURNS` tells
+/// what a launch of a kernel does by the meaning of its source, where each work-item has TURNS turns:
+/// that it is safe, or the first item that goes out of bounds or needs more turns, or else the least
+/// race. All memory is taken before the machine's first step.
+pub fn run<C: Compiler, K: JudgedKernel + Drop, F: Files, S: Sink>(
     alloc: Global,
     words: &[String],
     files: &mut F,
@@ -119,12 +134,18 @@ pub fn run<C: Compiler, F: Files, S: Sink>(
     // Once the module is written it stays, and the run is that of the written module. A safe launch
     // breaks no restriction, and leaves what its items leave one by one.
     ensures run { IfRun (map string_bytes words.now) (λ source_name kernel module_name launch_name.
-        RunAnswers C.language source_name kernel module_name launch_name
+        RunAnswers (both C.language K.meanings) source_name kernel module_name launch_name
+        (F.state files.old) (S.state out.old) (F.state files.new) (S.state out.new) result) }
+
+    // The verdict is that on the launch and the buffers that were read, by the meaning of the source that
+    // was read. No file changes.
+    ensures judge { IfJudge (map string_bytes words.now) (λ source_name kernel launch_name turns.
+        JudgeAnswers K.meanings source_name kernel launch_name turns
         (F.state files.old) (S.state out.old) (F.state files.new) (S.state out.new) result) }
 
     // No file changes but those that are due to be written.
     ensures files { IfSome (F.state files.old).told (λ tree.
-        OnlyWritesMade C.language (due_for (plan_of (map string_bytes words.now)) tree) tree (F.state files.new)) }
+        OnlyWritesMade (both C.language K.meanings) (due_for (plan_of (map string_bytes words.now)) tree) tree (F.state files.new)) }
 
     // Want of memory without a counted shortage has changed no file, but for the module of a `run`,
     // and written nothing.
@@ -144,16 +165,16 @@ pub fn run<C: Compiler, F: Files, S: Sink>(
     ensures too_long { result ≡ Status.TooLong
         → Rose (F.state files.old).over_long (F.state files.new).over_long }
 
-    // Where the files are told, it ends as is due of the words with the module that it made, or at a
+    // Where the files are told, it ends as is due of the words with what it made, or at a
     // fault or want of memory on the way there.
     ensures due { IfSome (F.state files.old).told (λ tree.
-        EndsAsMade C.language true (due_for (plan_of (map string_bytes words.now)) tree) tree
+        EndsAsMade (both C.language K.meanings) true (due_for (plan_of (map string_bytes words.now)) tree) tree
         (F.state files.old) (S.state out.old) (F.state files.new) (S.state out.new) result) }
 
     // Where they are told and no fault came, the status is the one that is due, or want of memory.
     ensures quiet { IfSome (F.state files.old).told (λ tree.
         IsQuiet (F.state files.old) (S.state out.old) (F.state files.new) (S.state out.new)
-        → AnswersAsMade C.language (due_for (plan_of (map string_bytes words.now)) tree) result) }
+        → AnswersAsMade (both C.language K.meanings) (due_for (plan_of (map string_bytes words.now)) tree) result) }
 
     // Then a `compile` of a source in the profile comes to its end or wants memory, and so does a
     // `run` of it by a safe launch with enough rounds.
@@ -166,6 +187,12 @@ pub fn run<C: Compiler, F: Files, S: Sink>(
         → IfRun (map string_bytes words.now) (λ source_name kernel module_name launch_name.
         RunEnds C.language source_name kernel module_name launch_name tree result)) }
 
+    // A `judge` by a valid launch that fits comes to the verdict on it then, or wants memory.
+    ensures judge_ends { IfSome (F.state files.old).told (λ tree.
+        IsQuiet (F.state files.old) (S.state out.old) (F.state files.new) (S.state out.new)
+        → IfJudge (map string_bytes words.now) (λ source_name kernel launch_name turns.
+        JudgeEnds K.meanings source_name kernel launch_name turns tree (F.state files.old) result)) }
+
     // A source that violates a rule is refused then, or memory is wanting.
     ensures compile_refuses { IfSome (F.state files.old).told (λ tree.
         IsQuiet (F.state files.old) (S.state out.old) (F.state files.new) (S.state out.new)
@@ -175,10 +202,14 @@ pub fn run<C: Compiler, F: Files, S: Sink>(
         IsQuiet (F.state files.old) (S.state out.old) (F.state files.new) (S.state out.new)
         → IfRun (map string_bytes words.now) (λ source_name kernel module_name launch_name.
         RunRefuses C.language source_name kernel module_name launch_name tree result)) }
+    ensures judge_refuses { IfSome (F.state files.old).told (λ tree.
+        IsQuiet (F.state files.old) (S.state out.old) (F.state files.new) (S.state out.new)
+        → IfJudge (map string_bytes words.now) (λ source_name kernel launch_name turns.
+        JudgeRefuses K.meanings source_name kernel launch_name tree result)) }
 
     // Told or not, it goes through the places in their order.
-    ensures order { Runs C.language (plan_of (map string_bytes words.now))
+    ensures order { Runs (both C.language K.meanings) (plan_of (map string_bytes words.now))
         (F.state files.old) (S.state out.old) (F.state files.new) (S.state out.new) result }
 {
-    run_words::<C, F, S>(alloc, words, files, out)
+    run_words::<C, K, F, S>(alloc, words, files, out)
 }

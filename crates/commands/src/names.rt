@@ -1,8 +1,9 @@
-//! The names of files in a launch.
+//! Names of files.
 
-ghost use Rattle.std.specs.Prelude.{◌≡◌, IsAscii};
+ghost use Rattle.std.specs.Prelude.{◌≡◌, ◌∷◌, [], IfOk, IsAscii};
 
 use q_io::Text;
+use std::alloc::{AllocError, Global};
 use std::str;
 
 /// The name as text.
@@ -11,4 +12,14 @@ pub fn text_of(name: &Text) -> &str
     ensures { result.now ≡ name.now }
 {
     str::from_utf8(name.as_bytes()).unwrap()
+}
+
+/// The two names that a command has, which no buffer may be written to.
+pub fn two_names(alloc: Global, one: &str, other: &str) -> Result<Vec<Text>, AllocError>
+    ensures { IfOk result (λ names. names.items ≡ one.now ∷ other.now ∷ []) }
+{
+    let mut names = Vec::with_capacity(alloc, 2)?;
+    names.push(Text::from_slice(alloc, one.as_bytes())?)?;
+    names.push(Text::from_slice(alloc, other.as_bytes())?)?;
+    Ok(names)
 }

@@ -3,7 +3,7 @@
 ghost use Rattle.std.specs.Prelude.{◌≡◌, ◌⊎◌, ◌≤◌, [], length, All, IfSome, false};
 ghost use Rattle.q_io.specs.Rose.{Rose};
 ghost use Rattle.qpu_machine.specs.MachineState.{stop_of};
-ghost use Rattle.commands.specs.Plan.{no_language, Ends, status_of};
+ghost use Rattle.commands.specs.Plan.{no_sources, Ends, status_of};
 ghost use Rattle.commands.specs.Due.{EndsAsDue, due_of};
 ghost use Rattle.commands.specs.Buffers.{HasTextNames};
 ghost use Rattle.commands.specs.Play.{answer_of, ran, stored_plan, play_plan};
@@ -61,7 +61,7 @@ fn store<F: Files, S: Sink>(
     requires qpus { launch.now.qpus ≡ length machine.now.qpus }
     requires buffers { length launch.now.buffers ≡ length machine.now.fixed.buffers }
     requires few { length launch.now.buffers ≤ 16 }
-    ensures { Ends no_language false (stored_plan machine.now launch.now)
+    ensures { Ends no_sources false (stored_plan machine.now launch.now)
         (F.state files.old) (S.state out.old) (F.state files.new) (S.state out.new) result }
 {
     match store_buffers(&launch.buffers, machine, files, out) {
@@ -80,7 +80,7 @@ fn play_places<F: Files, S: Sink>(ready: &mut Ready, files: &mut F, out: &mut S)
     requires few { length ready.old.launch.buffers ≤ 16 }
     requires qpus { ready.old.launch.qpus ≡ length ready.old.machine.qpus }
     requires buffers { length ready.old.launch.buffers ≡ length ready.old.machine.fixed.buffers }
-    ensures { Ends no_language false (play_plan ready.old.machine ready.old.launch ready.old.file.items)
+    ensures { Ends no_sources false (play_plan ready.old.machine ready.old.launch ready.old.file.items)
         (F.state files.old) (S.state out.old) (F.state files.new) (S.state out.new) result }
 {
     run_schedule(&mut ready.machine, &ready.launch.schedule, &ready.file);
@@ -108,7 +108,7 @@ pub fn play<F: Files, S: Sink>(ready: &mut Ready, files: &mut F, out: &mut S) ->
         (F.state files.old) (S.state out.old) (F.state files.new) (S.state out.new) result) }
 
     // Told or not, it goes through its places in their order.
-    ensures order { Ends no_language false (play_plan ready.old.machine ready.old.launch ready.old.file.items)
+    ensures order { Ends no_sources false (play_plan ready.old.machine ready.old.launch ready.old.file.items)
         (F.state files.old) (S.state out.old) (F.state files.new) (S.state out.new) result }
 {
     let _qpus = ready.launch.qpus;

@@ -2,7 +2,7 @@
 
 ghost use Rattle.std.specs.Prelude.{◌≡◌, ◌∷◌, [], true, IfOk};
 ghost use Rattle.vc4q_module.specs.ModuleBytes.{IsModule};
-ghost use Rattle.commands.specs.Plan.{no_language, Ends};
+ghost use Rattle.commands.specs.Plan.{no_meanings, no_sources, both, Ends};
 ghost use Rattle.commands.specs.Compile.{keep_plan, run_plan};
 
 use crate::compiling::make_module;
@@ -42,7 +42,7 @@ fn keep_module<F: Files, S: Sink>(
     out: &mut S,
 ) -> Status
     requires { IsModule «module» }
-    ensures { Ends no_language true (keep_plan taken.now module_name.now launch_name.now «module»)
+    ensures { Ends no_sources true (keep_plan taken.now module_name.now launch_name.now «module»)
         (F.state files.old) (S.state out.old) (F.state files.new) (S.state out.new) result }
 {
     let bytes = match vc4q_module::write(alloc, &module) {
@@ -66,7 +66,7 @@ pub fn run_file<C: Compiler, F: Files, S: Sink>(
     files: &mut F,
     out: &mut S,
 ) -> Status
-    ensures { Ends C.language true (run_plan source_name.now kernel.now module_name.now launch_name.now)
+    ensures { Ends (both C.language no_meanings) true (run_plan source_name.now kernel.now module_name.now launch_name.now)
         (F.state files.old) (S.state out.old) (F.state files.new) (S.state out.new) result }
 {
     let taken = match names_of(alloc, source_name, module_name, launch_name) {

@@ -20,12 +20,16 @@ use Rattle.solo_law.specs.Sharing.{no_shares}
 use Rattle.solo_law.proofs.Opening.{openings_start}
 use Rattle.solo_law.proofs.Theorems.{projects, bound, never_stuck}
 use Rattle.compile_pipe.specs.Profile.{IsInProfile}
-use Rattle.promise.specs.ItemMeaning.{Ended, ItemEnd, Ends as Comes, Bounds, Spent, idle_item, idle_kernel}
-use Rattle.promise.specs.LaunchMeaning.{AreRun, left_by, turns_of, IsSafe}
+use Rattle.launch_meaning.specs.declared.ends.Ended.{Ended}
+use Rattle.launch_meaning.specs.declared.ends.ItemEnd.{ItemEnd}
+use Rattle.launch_meaning.specs.declared.ends.ItemEnd.TheVariants.{Ends as Comes, Bounds, Spent}
+use Rattle.launch_meaning.specs.LaunchMeaning.{AreRun, left_by, turns_of, IsSafe}
+use Rattle.promise.specs.Kernel.{idle_item, idle_kernel}
 use Rattle.promise.specs.Openings.{Setting, IsSetting, plan_for, opening_of}
 use Rattle.compile_pipe.specs.EmptyCode.{empty_module}
 use Rattle.promise.specs.Faithful.{buffers_of, KeepsAll}
 use Rattle.compile_pipe.specs.Kernels.{IsFaithful}
+use Rattle.compile_pipe.proofs.IdleItems.{idle_is_kernel}
 use Rattle.compile_pipe.proofs.EmptyRun.{IsAt, runs_clean, stands, rests_after, reads_none, writes_none, changes_none}
 use Rattle.promise.proofs.OpeningLaws.{is_planned}
 use Rattle.promise.proofs.OpeningBytes.{buffers_back}
@@ -72,7 +76,7 @@ left_one launch id buffers turns one e = by_clock (nat_lt turns 1) e
   where
     buffers_in : ItemEnd → List (List ℕ)
     buffers_in (Comes one) = one.buffers
-    buffers_in (Bounds token) = []
+    buffers_in (Bounds at) = []
     buffers_in Spent = []
 
     by_clock : (late : Bool) → (if late then Spent else Comes (record { buffers = buffers; marks = []; turns = 1 })) ≡ Comes one → one.buffers ≡ buffers
@@ -251,7 +255,7 @@ unfolding empty_module
 empty_is_faithful source name lawful =
     record {
       kernel = idle_kernel;
-      is_kernel = (lawful, refl);
+      is_kernel = idle_is_kernel source name lawful;
       kinds = refl;
       keeps = λ s good which turns ended safe. keeps_all s good turns ended safe;
     }

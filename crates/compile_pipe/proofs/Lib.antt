@@ -1,4 +1,5 @@
 pub mod Violations
 pub mod EmptyRun
+pub mod IdleItems
 pub mod EmptyFaithful
 pub mod KernelLaws

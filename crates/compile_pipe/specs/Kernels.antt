@@ -1,14 +1,27 @@
 -- The kernels of sources, and the language that is compiled. They are this project's own.
 use Rattle.std.specs.Prelude.{◌≡◌, ℕ, List}
 use Rattle.vc4q_module.specs.ModuleBytes.{ModuleOf}
-use Rattle.promise.specs.ItemMeaning.{Kernel, idle_kernel}
+use Rattle.clc_types.specs.declared.typed.TFunction.{TFunction}
+use Rattle.clc_front.specs.Profile.{HasKernel}
+use Rattle.clc_front.specs.Kinds.{kinds_at}
+use Rattle.item_meaning.specs.ItemMeaning.{item}
+use Rattle.promise.specs.Kernel.{Kernel}
 use Rattle.promise.specs.Language.{Language}
 use Rattle.promise.specs.Faithful.{IsFaithful as IsFaithfulIn}
 use Rattle.compile_pipe.specs.Profile.{IsInProfile, IsFirstViolation}
 
--- this is the kernel of that name in the source, which is in the profile. For now each such kernel does nothing
-abbrev pub IsKernel : (source name : List ℕ) → Kernel → Type 0
-IsKernel source name kernel = IsInProfile source name × (kernel ≡ idle_kernel)
+-- the kernel of this number: its parameters and its items are those that the typed tree says. Of the forms that are built so far the body, a block, is
+-- the one node
+abbrev pub kernel_at : List TFunction → (number : ℕ) → Kernel
+kernel_at functions number = record { kinds = kinds_at functions number; nodes = 1; item = item functions number }
+
+-- this is the kernel of that name in the source, which is in the profile
+pub record IsKernel (source name : List ℕ) (kernel : Kernel) : Type 0 where
+  pub lawful : IsInProfile source name
+  pub functions : List TFunction
+  pub number : ℕ
+  pub has : HasKernel source name functions number
+  pub is : kernel ≡ kernel_at functions number
 
 -- what is compiled
 abbrev pub opencl : Language

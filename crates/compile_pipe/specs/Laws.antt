@@ -1,8 +1,9 @@
 -- That launches of the kernels of sources can be safe.
 use Rattle.std.specs.Prelude.{◌≡◌, ℕ, ◌≤◌, List}
 use Rattle.launch_file.specs.Launches.{LaunchOf, items_of}
-use Rattle.promise.specs.ItemMeaning.{Ended, Kernel}
-use Rattle.promise.specs.LaunchMeaning.{left_by, turns_of, IsSafe}
+use Rattle.launch_meaning.specs.declared.ends.Ended.{Ended}
+use Rattle.launch_meaning.specs.LaunchMeaning.{left_by, turns_of, IsSafe}
+use Rattle.promise.specs.Kernel.{Kernel}
 use Rattle.compile_pipe.specs.Kernels.{IsKernel}
 
 -- each launch of a kernel that does nothing is safe within one turn for each item, uses one turn for each item, and leaves the buffers

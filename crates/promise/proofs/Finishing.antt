@@ -6,9 +6,9 @@ use Rattle.qpu_machine.specs.MachineState.{stop_of}
 use Rattle.qpu_machine.specs.MachineRun.{machine_run}
 use Rattle.qpu_machine.specs.Schedules.{rounds_of}
 use Rattle.solo_law.proofs.Rounds.{rounds_finish}
-use Rattle.promise.specs.ItemMeaning.{Kernel}
+use Rattle.launch_meaning.specs.LaunchMeaning.{turns_of, IsSafe}
+use Rattle.promise.specs.Kernel.{Kernel}
 use Rattle.promise.specs.Language.{Language}
-use Rattle.promise.specs.LaunchMeaning.{turns_of, IsSafe}
 use Rattle.promise.specs.Openings.{opening_of}
 use Rattle.promise.specs.Faithful.{most_steps, KeepsAll}
 use Rattle.promise.specs.Laws.{KernelsAreOne, SafeRunsFinish}

@@ -7,8 +7,10 @@ use Rattle.footprint.specs.declared.marks.Mark.{Mark}
 use Rattle.footprint.specs.declared.marks.Use.{Use}
 use Rattle.footprint.specs.Marks.{Uses, ConflictAt}
 use Rattle.launch_file.specs.Launches.{LaunchOf, items_of}
-use Rattle.promise.specs.ItemMeaning.{Ended, Ends, Spent, idle_item}
-use Rattle.promise.specs.LaunchMeaning.{AreRun, left_by, turns_of, marks_at, IsSafe}
+use Rattle.launch_meaning.specs.declared.ends.Ended.{Ended}
+use Rattle.launch_meaning.specs.declared.ends.ItemEnd.TheVariants.{Ends, Spent}
+use Rattle.launch_meaning.specs.LaunchMeaning.{AreRun, left_by, turns_of, marks_at, IsSafe}
+use Rattle.promise.specs.Kernel.{idle_item}
 use Rattle.promise.specs.Laws.{IdleLaunchesAreSafe}
 
 module _ (launch : LaunchOf) (buffers : List (List ℕ)) where

@@ -6,8 +6,9 @@ use Rattle.qpu_machine.specs.Opening.{contents_of}
 use Rattle.qpu_machine.specs.Reachable.{AreBytes}
 use Rattle.qpu_machine.specs.declared.plan.Fill.TheVariants.{Zero}
 use Rattle.qpu_machine.proofs.RangeFill.{fill_in_range}
-use Rattle.promise.specs.ItemMeaning.{Ended, Kernel, idle_item, idle_kernel}
-use Rattle.promise.specs.LaunchMeaning.{IsSafe}
+use Rattle.launch_meaning.specs.declared.ends.Ended.{Ended}
+use Rattle.launch_meaning.specs.LaunchMeaning.{IsSafe}
+use Rattle.promise.specs.Kernel.{Kernel, idle_item, idle_kernel}
 use Rattle.promise.specs.Openings.{Setting, IsSetting, AreAllBytes}
 use Rattle.promise.specs.WrongModules.{bare}
 

@@ -17,9 +17,10 @@ use Rattle.qpu_machine.specs.MachineState.{MachineState, stop_of}
 use Rattle.qpu_machine.specs.MachineRun.{happens, machine_run, is_effective, effective_steps}
 use Rattle.qpu_machine.specs.SoloRun.{AnyCovers}
 use Rattle.solo_law.specs.Laws.{load_started, store_started}
-use Rattle.promise.specs.ItemMeaning.{Ended, Kernel}
+use Rattle.launch_meaning.specs.declared.ends.Ended.{Ended}
+use Rattle.launch_meaning.specs.LaunchMeaning.{marks_at, left_by, turns_of, IsSafe}
+use Rattle.promise.specs.Kernel.{Kernel}
 use Rattle.promise.specs.Language.{Language}
-use Rattle.promise.specs.LaunchMeaning.{marks_at, left_by, turns_of, IsSafe}
 use Rattle.promise.specs.Openings.{Setting, IsSetting, opening_of, Covered}
 
 -- ---- six clauses on all runs of a machine from one opening

@@ -11,10 +11,11 @@ use Rattle.qpu_machine.specs.MachineState.{stop_of}
 use Rattle.qpu_machine.specs.MachineRun.{machine_run}
 use Rattle.qpu_machine.specs.Reachable.{AreWords, AreBytes}
 use Rattle.qpu_machine.specs.Schedules.{rounds_of}
+use Rattle.launch_meaning.specs.declared.ends.Ended.{Ended}
+use Rattle.launch_meaning.specs.LaunchMeaning.{left_by, turns_of, IsSafe}
 use Rattle.promise.specs.declared.refusal.SourceRule.{SourceRule}
-use Rattle.promise.specs.ItemMeaning.{Ended, Kernel, idle_kernel}
-use Rattle.promise.specs.Language.{Language}
-use Rattle.promise.specs.LaunchMeaning.{left_by, turns_of, IsSafe}
+use Rattle.promise.specs.Kernel.{Meaning, Kernel, idle_kernel}
+use Rattle.promise.specs.Language.{Language, Meanings}
 use Rattle.promise.specs.Openings.{Setting, IsValid, IsSetting, Covered, plan_for, opening_of}
 use Rattle.promise.specs.Faithful.{buffers_of, most_steps, IsFaithful}
 
@@ -25,6 +26,13 @@ pub record HasOneViolation (l : Language) : Type 0 where
   pub one : (source kernel : List ℕ) (rule other : SourceRule) (at place : ℕ)
       → l.violates_first source kernel rule at → l.violates_first source kernel other place → (rule ≡ other) × (at ≡ place)
   pub none : (source kernel : List ℕ) (rule : SourceRule) (at : ℕ) → l.in_profile source kernel → ¬ (l.violates_first source kernel rule at)
+
+-- a source has one meaning of a kernel's name at most, or else one first violation at most, and not both
+pub record MeaningsAreOne (m : Meanings) : Type 0 where
+  pub one : (source name : List ℕ) (one other : Meaning) → m.means source name one → m.means source name other → one ≡ other
+  pub none : (source name : List ℕ) (meaning : Meaning) (rule : SourceRule) (at : ℕ) → m.means source name meaning → ¬ (m.violates_first source name rule at)
+  pub first : (source name : List ℕ) (rule other : SourceRule) (at place : ℕ)
+      → m.violates_first source name rule at → m.violates_first source name other place → (rule ≡ other) × (at ≡ place)
 
 -- ---- openings
 

@@ -1,7 +1,6 @@
 pub mod RuleNames
-pub mod ItemMeaning
+pub mod Kernel
 pub mod Language
-pub mod LaunchMeaning
 pub mod Openings
 pub mod Faithful
 pub mod Laws

@@ -2,7 +2,7 @@
 -- Architecture Reference Guide; the choice of them is this project's own.
 use Rattle.std.specs.Prelude.{◌≡◌, ℕ, List, [], ◌∷◌}
 use Rattle.vc4q_module.specs.ModuleBytes.{ModuleOf}
-use Rattle.promise.specs.ItemMeaning.{Kernel, idle_kernel}
+use Rattle.promise.specs.Kernel.{Kernel, idle_kernel}
 use Rattle.promise.specs.Language.{Language}
 use Rattle.promise.specs.Faithful.{IsFaithful}
 

@@ -1,4 +1,4 @@
-//! Why a source isn't compiled.
+//! Why a source isn't taken.
 
 ghost use Rattle.std.specs.Prelude.{◌≡◌};
 ghost use Rattle.promise.specs.RuleNames.{name_of};
@@ -88,7 +88,7 @@ impl SourceRule {
     }
 }
 
-/// Why there is no module.
+/// Why a source is neither compiled nor judged.
 #[derive(Clone, Copy, Debug, PartialEq, Eq)]
 pub enum Refusal {
     /// The source violates this rule first, at this byte counted from 0.

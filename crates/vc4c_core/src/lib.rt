@@ -1,27 +1,31 @@
-//! The top call: the program with its compiler, over any files and any output.
+//! The top call: the program with its compiler and its judge, over any files and any output.
 #![tactic(auto)]
 
 ghost use Rattle.std.specs.Prelude.{◌≡◌, ◌⊎◌, map, string_bytes, true, IfSome, None};
 ghost use Rattle.q_io.specs.Rose.{Rose};
-ghost use Rattle.commands.specs.Commands.{plan_of, due_for, usage_line, first_written, IfCompile, IfExec, IfRun};
+ghost use Rattle.commands.specs.Commands.{plan_of, due_for, usage_line, first_written, IfCompile, IfExec, IfRun, IfJudge};
 ghost use Rattle.commands.specs.Due.{IsQuiet, ShortOrKept};
 ghost use Rattle.commands.specs.Lines.{Says};
 ghost use Rattle.commands.specs.ExecClauses.{ExecAnswers};
-ghost use Rattle.vc4c_core.specs.Clauses.{Runs, EndsAsMade, AnswersAsMade, OnlyWritesMade, CompileAnswers, RunAnswers, CompileEnds, CompileRefuses, RunEnds, RunRefuses};
+ghost use Rattle.vc4c_core.specs.Clauses.{Runs, EndsAsMade, AnswersAsMade, OnlyWritesMade, CompileAnswers, RunAnswers, CompileEnds, CompileRefuses, RunEnds, RunRefuses, JudgeAnswers, JudgeEnds, JudgeRefuses};
 
 use crate::compiler::OpenClCompiler;
+use crate::judge::OpenClKernel;
 pub use commands::{Ready, Status, code, play};
 use q_io::{Files, Sink};
 use std::alloc::Global;
 
 mod compiler;
+mod judge;
 
 /// Does what the words ask for, and answers how it went.
 ///
 /// `compile SRC KERNEL MODULE` makes a module of a source and writes it. `exec MODULE LAUNCH` runs a
 /// module by a launch, writes the buffers with an output name and then the report of the run.
-/// `run SRC KERNEL MODULE LAUNCH` does the one after the other. All memory is taken before the
-/// machine's first step.
+/// `run SRC KERNEL MODULE LAUNCH` does the one after the other. `judge SRC KERNEL LAUNCH TURNS` tells
+/// what a launch of a kernel does by the meaning of its source, where each work-item has TURNS turns:
+/// that it is safe, or the first item that goes out of bounds or needs more turns, or else the least
+/// race. All memory is taken before the machine's first step.
 pub fn run<F: Files, S: Sink>(alloc: Global, words: &[String], files: &mut F, out: &mut S) -> Status
     // Usage is answered only where the words are of no form, and then its line is all that is done.
     ensures usage { result ≡ Status.Usage → plan_of (map string_bytes words.now) ≡ None }
@@ -46,6 +50,12 @@ pub fn run<F: Files, S: Sink>(alloc: Global, words: &[String], files: &mut F, ou
         RunAnswers source_name kernel module_name launch_name
         (F.state files.old) (S.state out.old) (F.state files.new) (S.state out.new) result) }
 
+    // The verdict is that on the launch and the buffers that were read, by the meaning of the source that
+    // was read. No file changes.
+    ensures judge { IfJudge (map string_bytes words.now) (λ source_name kernel launch_name turns.
+        JudgeAnswers source_name kernel launch_name turns
+        (F.state files.old) (S.state out.old) (F.state files.new) (S.state out.new) result) }
+
     // No file changes but those that are due to be written.
     ensures files { IfSome (F.state files.old).told (λ tree.
         OnlyWritesMade (due_for (plan_of (map string_bytes words.now)) tree) tree (F.state files.new)) }
@@ -68,7 +78,7 @@ pub fn run<F: Files, S: Sink>(alloc: Global, words: &[String], files: &mut F, ou
     ensures too_long { result ≡ Status.TooLong
         → Rose (F.state files.old).over_long (F.state files.new).over_long }
 
-    // Where the files are told, it ends as is due of the words with the module that it made, or at a
+    // Where the files are told, it ends as is due of the words with what it made, or at a
     // fault or want of memory on the way there.
     ensures due { IfSome (F.state files.old).told (λ tree.
         EndsAsMade true (due_for (plan_of (map string_bytes words.now)) tree) tree
@@ -90,6 +100,12 @@ pub fn run<F: Files, S: Sink>(alloc: Global, words: &[String], files: &mut F, ou
         → IfRun (map string_bytes words.now) (λ source_name kernel module_name launch_name.
         RunEnds source_name kernel module_name launch_name tree result)) }
 
+    // A `judge` by a valid launch that fits comes to the verdict on it then, or wants memory.
+    ensures judge_ends { IfSome (F.state files.old).told (λ tree.
+        IsQuiet (F.state files.old) (S.state out.old) (F.state files.new) (S.state out.new)
+        → IfJudge (map string_bytes words.now) (λ source_name kernel launch_name turns.
+        JudgeEnds source_name kernel launch_name turns tree (F.state files.old) result)) }
+
     // A source that violates a rule is refused then, or memory is wanting.
     ensures compile_refuses { IfSome (F.state files.old).told (λ tree.
         IsQuiet (F.state files.old) (S.state out.old) (F.state files.new) (S.state out.new)
@@ -99,10 +115,14 @@ pub fn run<F: Files, S: Sink>(alloc: Global, words: &[String], files: &mut F, ou
         IsQuiet (F.state files.old) (S.state out.old) (F.state files.new) (S.state out.new)
         → IfRun (map string_bytes words.now) (λ source_name kernel module_name launch_name.
         RunRefuses source_name kernel module_name launch_name tree result)) }
+    ensures judge_refuses { IfSome (F.state files.old).told (λ tree.
+        IsQuiet (F.state files.old) (S.state out.old) (F.state files.new) (S.state out.new)
+        → IfJudge (map string_bytes words.now) (λ source_name kernel launch_name turns.
+        JudgeRefuses source_name kernel launch_name tree result)) }
 
     // Told or not, it goes through the places in their order.
     ensures order { Runs (plan_of (map string_bytes words.now))
         (F.state files.old) (S.state out.old) (F.state files.new) (S.state out.new) result }
 {
-    commands::run::<OpenClCompiler, F, S>(alloc, words, files, out)
+    commands::run::<OpenClCompiler, OpenClKernel, F, S>(alloc, words, files, out)
 }

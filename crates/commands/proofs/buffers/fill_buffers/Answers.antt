@@ -3,7 +3,7 @@ use Rattle.promise.specs.Openings.{AreAllBytes}
 use Rattle.commands.proofs.OpeningLaws.{all_more}
 use Rattle.commands.specs.Buffers.{read_buffers}
 use Rattle.commands.proofs.Steps.{gives_up, read_buffers_at, one_more_size}
-use Rattle.commands.specs.Plan.{no_language, Plan, Ends}
+use Rattle.commands.specs.Plan.{no_sources, Plan, Ends}
 use Rattle.commands.proofs.buffers.fill_buffers.Goals as goal
 
 pub returns-in-Err-push-clause-err : goal.returns-in-Err-push-clause-err
@@ -28,7 +28,7 @@ loop-line-preserved g c =
       leads = λ next now out_now result ends.
           let rest : List ℕ → Plan = λ bytes. read_buffers (drop (i + 1) lines) (got ++ bytes ∷ []) next in
           let at = read_buffers_at lines i line got next within c.line-item.is in
-          let P : Plan → Type 0 = λ p. Ends no_language true p (g.F.Files.state c.loop-line.files) (g.S.Sink.state c.loop-line.out) now out_now result in
-          let Q : List (List ℕ) → Type 0 = λ bs. Ends no_language true (read_buffers (drop (i + 1) lines) bs next) (g.F.Files.state c.fill_buffer.new.files) (g.S.Sink.state c.fill_buffer.new.out) now out_now result in
+          let P : Plan → Type 0 = λ p. Ends no_sources true p (g.F.Files.state c.loop-line.files) (g.S.Sink.state c.loop-line.out) now out_now result in
+          let Q : List (List ℕ) → Type 0 = λ bs. Ends no_sources true (read_buffers (drop (i + 1) lines) bs next) (g.F.Files.state c.fill_buffer.new.files) (g.S.Sink.state c.fill_buffer.new.out) now out_now result in
           c.loop-line.invariant.leads next now out_now result (subst P (sym at) (c.in-Ok.ensures.ok rest now out_now result (subst Q grown ends)));
     }
