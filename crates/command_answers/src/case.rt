@@ -79,10 +79,11 @@ pub fn faults_of(alloc: Global, text: &str) -> Result<Faults, RowFault> {
     Ok(Faults { calls, pieces })
 }
 
-/// The words of a line.
+/// The words of a line, of which `""` is the empty one.
 pub fn words_of(alloc: Global, line: &str) -> Result<Vec<String>, AllocError> {
     let mut words = Vec::new(alloc);
-    for word in line.split_whitespace() {
+    for piece in line.split_whitespace() {
+        let word = if piece == "\"\"" { "" } else { piece };
         words.push(String::from_str(alloc, word)?)?;
     }
     Ok(words)

@@ -9,13 +9,17 @@ use std::rt::Files;
 use std::{fs, io};
 
 /// The files of rows. The names of the first hold in all of them.
-const ROW_FILES: [&str; 7] = [
+const ROW_FILES: [&str; 11] = [
     "names.txt",
     "words.txt",
     "runs.txt",
     "sources.txt",
     "launches.txt",
     "modules.txt",
+    "judge.txt",
+    "turns.txt",
+    "values.txt",
+    "verdicts.txt",
     "faults.txt",
 ];
 
