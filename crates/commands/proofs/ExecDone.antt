@@ -30,7 +30,8 @@ use Rattle.promise.specs.Faithful.{buffers_of}
 use Rattle.commands.specs.Buffers.{filled, read_buffer, read_buffers, write_buffer, write_buffers}
 use Rattle.commands.specs.Play.{answer_of, report_plan, play_plan}
 use Rattle.commands.specs.Launching.{launch_line, launch_plan, after_launch, fit_plan, after_fit}
-use Rattle.commands.specs.Exec.{exec_plan, module_plan, after_module, exec_launch_plan, schedule_plan, buffers_plan, ready_plan, read_schedule, module_limit, module_line}
+use Rattle.commands.specs.Loading.{module_limit, module_line, after_module, module_plan}
+use Rattle.commands.specs.Exec.{exec_plan, exec_launch_plan, schedule_plan, buffers_plan, ready_plan, read_schedule}
 use Rattle.commands.specs.ExecClauses.{IsRunStatus, IsRead, AreRead, IsScheduleFile, stored_one, stored, run_of, IsFaultOf, IsReadModule, Executed, RefusedModule, RefusedLaunch, ExecAnswers}
 use Rattle.commands.specs.Commands.{plan_of, Runs, IfExec}
 use Rattle.commands.specs.declared.status.Status.{Status}
@@ -288,6 +289,49 @@ launch_end sources code taken launch_name before mid now out_before out_now resu
     by_fit (unfit_launch is h) = no_launch is h
     by_fit (fit_launch text last holds none fit same ends) = fitting_end sources code taken launch_name text before last now out_before out_now result holds none fit same ends
 
+-- ---- the read of the module
+
+-- how a command ends from the read of its module on: with a module it goes on
+pub data ModuleEnd (sources : Sources) (module_name : List ℕ) (next : ModuleOf → Plan) (before : FilesState) (out_before : SinkState) (now : FilesState) (out_now : SinkState) (result : Status) : Type 0 where
+  unread_module : IsOutside result → ModuleEnd sources module_name next before out_before now out_now result
+  unfit_module : result ≡ BadModule → RefusedModule module_name before out_before now out_now → ModuleEnd sources module_name next before out_before now out_now result
+  loaded : (code : ModuleOf) (last : FilesState) → IsReadModule module_name before code → last.told ≡ before.told → Ends sources true (next code) last out_before now out_now result
+      → ModuleEnd sources module_name next before out_before now out_now result
+
+pub all_bytes : (bytes : List ℕ) → ((i : ℕ) → get_or bytes i 0 < 256) → All (λ b. b < 256) bytes
+all_bytes bytes h = λ k d within. subst (λ (b : ℕ). b < 256) (get_or_default bytes k 0 d within) (h k)
+
+module _ (sources : Sources) (module_name : List ℕ) (next : ModuleOf → Plan) (before now : FilesState) (out_before out_now : SinkState) (result : Status) where
+  module_end : (bytes : List ℕ) (fault : Option ℕ) (mid : FilesState) → HasRead before mid module_name module_limit bytes → module_fault bytes ≡ fault
+      → Ends sources true (after_module fault next (module_in bytes)) mid out_before now out_now result
+      → ModuleEnd sources module_name next before out_before now out_now result
+  module_end bytes (Some place) mid read is (inl h) = unread_module (short_outside result h.is)
+  module_end bytes (Some place) mid read is (inr (same, says)) =
+      elim (says_cases out_before out_now (module_line place) BadModule result says) [
+        | inl h ↦ unread_module h
+        | inr h ↦ unfit_module h.0 (record {
+          bytes = bytes;
+          place = place;
+          read = read.holds;
+          fault = is;
+          no_module = λ code valid e. let none : module_fault bytes ≡ None = ap module_fault e ∙ spellings_pass code valid in let some : module_fault bytes ≡ Some place = is in cc;
+          files = ap (λ f. f.told) same ∙ read.files;
+          line = h.1;
+        })
+      ]
+  module_end bytes None mid read is h =
+      let spelled = passing_spells bytes (all_bytes bytes read.are_bytes) is in
+      let code : ModuleOf = spelled.0 in
+      let known : module_in bytes ≡ code = ap module_in spelled.1.1 ∙ module_in-bytes code spelled.1.0 in
+      loaded code mid (record { valid = spelled.1.0; file = subst (Holds before module_name) spelled.1.1 read.holds }) read.files
+      (subst (λ m. Ends sources true (next m) mid out_before now out_now result) known h)
+
+  pub loading : Ends sources true (module_plan module_name next) before out_before now out_now result → ModuleEnd sources module_name next before out_before now out_now result
+  unfolding module_plan
+  loading (inl h) = unread_module (short_outside result h.is)
+  loading (inr (inl h)) = unread_module (says_outside out_before out_now _ h.trouble result h.says)
+  loading (inr (inr (bytes, mid, read, ends))) = module_end bytes (module_fault bytes) mid read refl ends
+
 -- ---- the ends of `exec`
 
 data ExecEnd (module_name launch_name : List ℕ) (before : FilesState) (out_before : SinkState) (now : FilesState) (out_now : SinkState) (result : Status) : Type 0 where
@@ -295,43 +339,18 @@ data ExecEnd (module_name launch_name : List ℕ) (before : FilesState) (out_bef
   no_module : result ≡ BadModule → RefusedModule module_name before out_before now out_now → ExecEnd module_name launch_name before out_before now out_now result
   read_module : (code : ModuleOf) → IsReadModule module_name before code → LaunchEnd code (module_name ∷ launch_name ∷ []) launch_name before out_before now out_now result → ExecEnd module_name launch_name before out_before now out_now result
 
-pub all_bytes : (bytes : List ℕ) → ((i : ℕ) → get_or bytes i 0 < 256) → All (λ b. b < 256) bytes
-all_bytes bytes h = λ k d within. subst (λ (b : ℕ). b < 256) (get_or_default bytes k 0 d within) (h k)
-
-module_end : (sources : Sources) (module_name launch_name bytes : List ℕ) (fault : Option ℕ) (before mid now : FilesState) (out_before out_now : SinkState) (result : Status)
-    → HasRead before mid module_name module_limit bytes → module_fault bytes ≡ fault
-    → Ends sources true (after_module fault (module_name ∷ launch_name ∷ []) (module_in bytes) launch_name) mid out_before now out_now result
-    → ExecEnd module_name launch_name before out_before now out_now result
-module_end sources module_name launch_name bytes (Some place) before mid now out_before out_now result read is (inl h) = unread (short_outside result h.is)
-module_end sources module_name launch_name bytes (Some place) before mid now out_before out_now result read is (inr (same, says)) =
-    elim (says_cases out_before out_now (module_line place) BadModule result says) [
-      | inl h ↦ unread h
-      | inr h ↦ no_module h.0 (record {
-        bytes = bytes;
-        place = place;
-        read = read.holds;
-        fault = is;
-        no_module = λ code valid e. let none : module_fault bytes ≡ None = ap module_fault e ∙ spellings_pass code valid in let some : module_fault bytes ≡ Some place = is in cc;
-        files = ap (λ f. f.told) same ∙ read.files;
-        line = h.1;
-      })
-    ]
-module_end sources module_name launch_name bytes None before mid now out_before out_now result read is h =
-    let spelled = passing_spells bytes (all_bytes bytes read.are_bytes) is in
-    let code : ModuleOf = spelled.0 in
-    let known : module_in bytes ≡ code = ap module_in spelled.1.1 ∙ module_in-bytes code spelled.1.0 in
-    let ends : Ends sources true (exec_launch_plan (module_name ∷ launch_name ∷ []) code launch_name) mid out_before now out_now result =
-    subst (λ m. Ends sources true (exec_launch_plan (module_name ∷ launch_name ∷ []) m launch_name) mid out_before now out_now result) known h in
-    read_module code (record { valid = spelled.1.0; file = subst (Holds before module_name) spelled.1.1 read.holds })
-    (launch_end sources code (module_name ∷ launch_name ∷ []) launch_name before mid now out_before out_now result read.files ends)
-
 exec_end : (sources : Sources) (module_name launch_name : List ℕ) (before now : FilesState) (out_before out_now : SinkState) (result : Status)
     → Ends sources true (exec_plan module_name launch_name) before out_before now out_now result → ExecEnd module_name launch_name before out_before now out_now result
-unfolding exec_plan module_plan
-exec_end sources module_name launch_name before now out_before out_now result (inl h) = unread (short_outside result h.is)
-exec_end sources module_name launch_name before now out_before out_now result (inr (inl h)) = unread (says_outside out_before out_now _ h.trouble result h.says)
-exec_end sources module_name launch_name before now out_before out_now result (inr (inr (bytes, mid, read, ends))) =
-    module_end sources module_name launch_name bytes (module_fault bytes) before mid now out_before out_now result read refl ends
+unfolding exec_plan
+exec_end sources module_name launch_name before now out_before out_now result h = by_module (loading sources module_name next before now out_before out_now result h)
+  where
+    next : ModuleOf → Plan
+    next code = exec_launch_plan (module_name ∷ launch_name ∷ []) code launch_name
+
+    by_module : ModuleEnd sources module_name next before out_before now out_now result → ExecEnd module_name launch_name before out_before now out_now result
+    by_module (unread_module out) = unread out
+    by_module (unfit_module is refused) = no_module is refused
+    by_module (loaded code last is same ends) = read_module code is (launch_end sources code (module_name ∷ launch_name ∷ []) launch_name before last now out_before out_now result same ends)
 
 outside_no_run : (result : Status) → IsOutside result → IsRunStatus result → ⊥
 unfolding IsOutside

@@ -33,14 +33,14 @@ use Rattle.commands.specs.declared.status.Status.TheVariants.{Done, Memory, Usag
 -- ---- no file changes
 
 -- a plan without writes
-WritesNone : Plan → Type 0
+unfoldable pub WritesNone : Plan → Type 0
 WritesNone (reads name limit next) = (bytes : List ℕ) → WritesNone (next bytes)
 WritesNone (writes name bytes next) = ⊥
 WritesNone (makes wanted next) = (made : MadeOf wanted) → WritesNone (next made)
 WritesNone (commits next) = WritesNone next
 WritesNone (answers answer line) = ⊤
 
-keeps_files : (sources : Sources) (asks : Bool) (plan : Plan) (before : FilesState) (out_before : SinkState) (now : FilesState) (out_now : SinkState) (result : Status)
+pub keeps_files : (sources : Sources) (asks : Bool) (plan : Plan) (before : FilesState) (out_before : SinkState) (now : FilesState) (out_now : SinkState) (result : Status)
     → WritesNone plan → Ends sources asks plan before out_before now out_now result → now.told ≡ before.told
 unfolding WritesNone
 keeps_files sources asks (reads name limit next) before out_before now out_now result none (inl h) = ap (λ f. f.told) h.files

@@ -16,7 +16,7 @@ use Rattle.launch_file.specs.declared.launch.LaunchFault.{LaunchFault}
 use Rattle.launch_file.specs.declared.launch.LaunchFault.TheVariants.{Rule, Memory as LaunchMemory}
 use Rattle.commands.specs.Plan.{Plan, HasRead, Ends, Leads}
 use Rattle.commands.specs.Launching.{launch_limit, after_launch, after_fit, fit_plan, launch_plan, RefusesLaunch, IsLaunchFault}
-use Rattle.commands.proofs.ExecSteps.{short}
+use Rattle.commands.proofs.LoadSteps.{short}
 use Rattle.commands.specs.declared.status.Status.{Status}
 use Rattle.promise.specs.Language.{Sources}
 

@@ -7,7 +7,7 @@ pub mod NameLaws
 pub mod BufferSteps
 pub mod OpeningSteps
 pub mod OpeningLaws
-pub mod ExecSteps
+pub mod LoadSteps
 pub mod LaunchSteps
 pub mod EndsAsDue
 pub mod Caused
@@ -23,5 +23,8 @@ pub mod SmallBuffers
 pub mod JudgeSteps
 pub mod JudgeDone
 pub mod JudgeEndings
+pub mod ListingLaws
+pub mod DisasmDone
+pub mod DisasmEndings
 pub mod Endings
 pub mod Refusing

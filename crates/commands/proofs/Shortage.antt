@@ -22,7 +22,9 @@ use Rattle.vc4q_module.specs.ModuleBytes.{ModuleOf, module_in, first_fault as mo
 use Rattle.promise.specs.Kernel.{Meaning}
 use Rattle.commands.specs.Buffers.{filled, read_buffer, read_buffers}
 use Rattle.commands.specs.Launching.{launch_plan, after_launch, fit_plan, after_fit}
-use Rattle.commands.specs.Exec.{exec_plan, module_plan, after_module, schedule_plan, buffers_plan, ready_plan, read_schedule}
+use Rattle.commands.specs.Loading.{after_module, module_plan}
+use Rattle.commands.specs.Disasm.{list_plan, disasm_plan}
+use Rattle.commands.specs.Exec.{exec_plan, exec_launch_plan, schedule_plan, buffers_plan, ready_plan, read_schedule}
 use Rattle.commands.specs.Judge.{turns_in, verdict_plan, judged_plan, after_reading, meaning_plan, judged_launch_plan, judge_plan}
 use Rattle.commands.specs.Compile.{after_source, source_plan, store_plan, compile_plan, keep_plan, run_plan}
 use Rattle.commands.proofs.Causes.{EndCause}
@@ -171,14 +173,24 @@ run_launch_late : (code : ModuleOf) (launch : LaunchOf) → WritesLate None (sch
 unfolding WritesLate schedule_plan buffers_plan
 run_launch_late code launch = schedule_late launch.schedule (buffers_plan code launch) (λ file. buffers_late launch.buffers [] (ready_plan code launch file) (λ buffers. tt))
 
-module_late : (fault : Option ℕ) (taken : List (List ℕ)) (code : ModuleOf) (launch_name : List ℕ) → WritesLate None (after_module fault taken code launch_name)
+module_late : (fault : Option ℕ) (next : ModuleOf → Plan) (code : ModuleOf) → WritesLate None (next code) → WritesLate None (after_module fault next code)
 unfolding WritesLate
-module_late None taken code launch_name = launch_late taken code.kinds launch_name (schedule_plan code) (run_launch_late code)
-module_late (Some place) taken code launch_name = tt
+module_late None next code h = h
+module_late (Some place) next code h = tt
+
+load_late : (module_name : List ℕ) (next : ModuleOf → Plan) → ((code : ModuleOf) → WritesLate None (next code)) → WritesLate None (module_plan module_name next)
+unfolding WritesLate module_plan
+load_late module_name next h = λ bytes. module_late (module_fault bytes) next (module_in bytes) (h (module_in bytes))
 
 exec_late : (module_name launch_name : List ℕ) → WritesLate None (exec_plan module_name launch_name)
-unfolding WritesLate exec_plan module_plan
-exec_late module_name launch_name = λ bytes. module_late (module_fault bytes) (module_name ∷ launch_name ∷ []) (module_in bytes) launch_name
+unfolding exec_plan
+exec_late module_name launch_name =
+    let taken : List (List ℕ) = module_name ∷ launch_name ∷ [] in
+    load_late module_name (λ code. exec_launch_plan taken code launch_name) (λ code. launch_late taken code.kinds launch_name (schedule_plan code) (run_launch_late code))
+
+disasm_late : (module_name : List ℕ) → WritesLate None (disasm_plan module_name)
+unfolding WritesLate disasm_plan
+disasm_late module_name = load_late module_name list_plan (λ code. tt)
 
 source_late : (first : Option (List ℕ)) (source : List ℕ) (next : ModuleOf → Plan) → ((code : ModuleOf) → WritesLate first (next code)) → (made : Compilation) → WritesLate first (after_source source next made)
 unfolding WritesLate
@@ -236,11 +248,15 @@ five_words true judges false source_name kernel one other = tt
 five_words false true apart source_name kernel one other = judge_words (bytes_eq source_name one) source_name kernel one (turns_in other)
 five_words false false apart source_name kernel one other = tt
 
+disasm_words : (verb : Bool) (module_name : List ℕ) → IfSome (cond verb (Some (disasm_plan module_name)) None) (WritesLate None)
+disasm_words true module_name = disasm_late module_name
+disasm_words false module_name = tt
+
 plans_late : (words : List (List ℕ)) → IfSome (plan_of words) (WritesLate (first_written words))
 unfolding plan_of
 plans_late [] = tt
 plans_late (one ∷ []) = tt
-plans_late (one ∷ two ∷ []) = tt
+plans_late (verb ∷ module_name ∷ []) = disasm_words (bytes_eq verb (codes "disasm")) module_name
 plans_late (verb ∷ module_name ∷ launch_name ∷ []) = exec_words (bytes_eq verb (codes "exec")) (bytes_eq module_name launch_name) module_name launch_name
 plans_late (verb ∷ source_name ∷ kernel ∷ module_name ∷ []) = compile_words (bytes_eq verb (codes "compile")) (bytes_eq source_name module_name) source_name kernel module_name
 plans_late (verb ∷ source_name ∷ kernel ∷ module_name ∷ launch_name ∷ []) =

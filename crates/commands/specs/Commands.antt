@@ -8,8 +8,9 @@ use Rattle.commands.specs.Due.{Due, Made, due_of}
 use Rattle.commands.specs.Exec.{exec_plan}
 use Rattle.commands.specs.Compile.{compile_plan, run_plan}
 use Rattle.commands.specs.Judge.{turns_in, judge_plan}
+use Rattle.commands.specs.Disasm.{disasm_plan}
 use Rattle.commands.specs.declared.command.Command.{Command}
-use Rattle.commands.specs.declared.command.Command.TheVariants.{Compile, Exec, Run, Judge}
+use Rattle.commands.specs.declared.command.Command.TheVariants.{Compile, Exec, Run, Judge, Disasm}
 use Rattle.commands.specs.declared.status.Status.{Status}
 use Rattle.commands.specs.declared.status.Status.TheVariants.{Usage}
 use Rattle.promise.specs.Language.{Sources}
@@ -23,8 +24,9 @@ abbrev pub judge_plan_of : (source_name kernel launch_name turns : List ℕ) →
 judge_plan_of source_name kernel launch_name turns = if bytes_eq source_name launch_name then None else option_map (judge_plan source_name kernel launch_name) (turns_in turns)
 
 -- the plan of the words, or none where they are of no form. The forms are `compile SRC KERNEL MODULE`, `exec MODULE LAUNCH`,
--- `run SRC KERNEL MODULE LAUNCH` and `judge SRC KERNEL LAUNCH TURNS`; the names SRC, MODULE and LAUNCH of a command differ
+-- `run SRC KERNEL MODULE LAUNCH`, `judge SRC KERNEL LAUNCH TURNS` and `disasm MODULE`; the names SRC, MODULE and LAUNCH of a command differ
 unfoldable pub plan_of : List (List ℕ) → Option Plan
+plan_of (verb ∷ module_name ∷ []) = if bytes_eq verb (codes "disasm") then Some (disasm_plan module_name) else None
 plan_of (verb ∷ module_name ∷ launch_name ∷ []) = if bytes_eq verb (codes "exec") then (if bytes_eq module_name launch_name then None else Some (exec_plan module_name launch_name)) else None
 plan_of (verb ∷ source_name ∷ kernel ∷ module_name ∷ []) =
     if bytes_eq verb (codes "compile") then (if bytes_eq source_name module_name then None else Some (compile_plan source_name kernel module_name)) else None
@@ -38,6 +40,7 @@ abbrev pub plan_of_command : Command → Plan
 plan_of_command (Compile source_name kernel module_name) = compile_plan source_name.now kernel.now module_name.now
 plan_of_command (Exec module_name launch_name) = exec_plan module_name.now launch_name.now
 plan_of_command (Run source_name kernel module_name launch_name) = run_plan source_name.now kernel.now module_name.now launch_name.now
+plan_of_command (Disasm module_name) = disasm_plan module_name.now
 plan_of_command (Judge source_name kernel launch_name turns) = judge_plan source_name.now kernel.now launch_name.now turns
 
 unfoldable pub usage_line : List ℕ
@@ -77,3 +80,8 @@ IfRun words P = ⊤
 abbrev pub IfJudge : List (List ℕ) → ((source_name kernel launch_name : List ℕ) (turns : ℕ) → Type 0) → Type 0
 IfJudge (verb ∷ source_name ∷ kernel ∷ launch_name ∷ word ∷ []) P = verb ≡ codes "judge" → IfSome (turns_in word) (P source_name kernel launch_name)
 IfJudge words P = ⊤
+
+-- the same of `disasm`
+abbrev pub IfDisasm : List (List ℕ) → ((module_name : List ℕ) → Type 0) → Type 0
+IfDisasm (verb ∷ module_name ∷ []) P = verb ≡ codes "disasm" → P module_name
+IfDisasm words P = ⊤

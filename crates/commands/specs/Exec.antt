@@ -1,31 +1,18 @@
 -- The command `exec`: its places.
-use Rattle.std.specs.Prelude.{◌≡◌, ℕ, List, [], ◌∷◌, ◌++◌, Option, Some, None, codes, decimal, ⊤}
-use Rattle.q_io.specs.SinkMeaning.{SinkState}
+use Rattle.std.specs.Prelude.{ℕ, List, [], ◌∷◌}
 use Rattle.launch_file.specs.declared.launch.Schedule.{Schedule}
 use Rattle.launch_file.specs.declared.launch.Schedule.TheVariants.{Rounds, Seed, File}
 use Rattle.launch_file.specs.Launches.{LaunchOf}
-use Rattle.vc4q_module.specs.declared.fault.ModFault.{ModFault}
-use Rattle.vc4q_module.specs.declared.fault.ModFault.TheVariants.{At, Memory as ModuleMemory}
-use Rattle.vc4q_module.specs.ModuleBytes.{ModuleOf, module_in, first_fault as module_fault}
-use Rattle.commands.specs.Plan.{Plan, reads, commits, answers, bad_module}
+use Rattle.vc4q_module.specs.ModuleBytes.{ModuleOf}
+use Rattle.commands.specs.Plan.{Plan, reads, commits}
+use Rattle.commands.specs.Loading.{module_plan}
 use Rattle.commands.specs.Launching.{launch_plan}
 use Rattle.commands.specs.Buffers.{read_buffers}
 use Rattle.commands.specs.Openings.{opening_for}
 use Rattle.commands.specs.Play.{play_plan}
-use Rattle.commands.specs.Lines.{Says}
-use Rattle.commands.specs.declared.status.Status.{Status}
-use Rattle.commands.specs.declared.status.Status.TheVariants.{Memory, BadModule}
-
--- 40 bytes, and 2 ^ 24 words of 8
-abbrev pub module_limit : ℕ
-module_limit = 134217768
 
 abbrev pub schedule_limit : ℕ
 schedule_limit = 16777216
-
--- the line of a module whose first failing test has this place
-unfoldable pub module_line : ℕ → List ℕ
-module_line place = codes "bad module " ++ (decimal place ++ codes "\n")
 
 -- the bytes of the schedule's file, of none where the schedule has no file
 abbrev pub read_schedule : Schedule → (List ℕ → Plan) → Plan
@@ -49,23 +36,5 @@ schedule_plan code launch = read_schedule launch.schedule (buffers_plan code lau
 abbrev pub exec_launch_plan : List (List ℕ) → ModuleOf → List ℕ → Plan
 exec_launch_plan taken code launch_name = launch_plan taken code.kinds launch_name (schedule_plan code)
 
--- the bytes are those of a module, or the first failing test has this place
-abbrev pub after_module : Option ℕ → List (List ℕ) → ModuleOf → List ℕ → Plan
-after_module (Some place) taken code launch_name = answers bad_module (module_line place)
-after_module None taken code launch_name = exec_launch_plan taken code launch_name
-
-unfoldable pub module_plan : List (List ℕ) → List ℕ → List ℕ → Plan
-module_plan taken module_name launch_name = reads module_name module_limit (λ bytes. after_module (module_fault bytes) taken (module_in bytes) launch_name)
-
 unfoldable pub exec_plan : List ℕ → List ℕ → Plan
-exec_plan module_name launch_name = module_plan (module_name ∷ launch_name ∷ []) module_name launch_name
-
--- a file that is no module is refused by its line, and where memory is wanting nothing is written
-abbrev pub RefusesModule : ModFault → SinkState → SinkState → Status → Type 0
-RefusesModule (At place) before now result = Says before now (module_line place) BadModule result
-RefusesModule ModuleMemory before now result = (now ≡ before) × (result ≡ Memory)
-
--- a module isn't read because of the fault that it has, or for want of memory
-abbrev pub IsModuleFault : Option ℕ → ModFault → Type 0
-IsModuleFault there (At place) = there ≡ Some place
-IsModuleFault there ModuleMemory = ⊤
+exec_plan module_name launch_name = module_plan module_name (λ code. exec_launch_plan (module_name ∷ launch_name ∷ []) code launch_name)

@@ -20,7 +20,8 @@ use Rattle.promise.specs.Faithful.{buffers_of}
 use Rattle.commands.specs.Buffers.{filled}
 use Rattle.commands.specs.Openings.{opening_for}
 use Rattle.commands.specs.Play.{answer_of, ran}
-use Rattle.commands.specs.Exec.{schedule_limit, module_line}
+use Rattle.commands.specs.Loading.{module_line}
+use Rattle.commands.specs.Exec.{schedule_limit}
 use Rattle.commands.specs.Launching.{launch_line}
 use Rattle.commands.specs.declared.status.Status.{Status}
 use Rattle.commands.specs.declared.status.Status.TheVariants.{Done, Memory, Usage, ReadFault, WriteFault, Missing, TooLong, Refused, BadModule, BadLaunch, Broken, Unfinished, NotSafe}

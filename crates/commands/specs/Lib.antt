@@ -6,12 +6,15 @@ pub mod Report
 pub mod Buffers
 pub mod Play
 pub mod Openings
+pub mod Loading
 pub mod Launching
 pub mod Exec
 pub mod Refusals
 pub mod Compile
 pub mod Judge
+pub mod Disasm
 pub mod ExecClauses
 pub mod CompileClauses
 pub mod JudgeClauses
+pub mod DisasmClauses
 pub mod Commands

@@ -8,48 +8,23 @@ ghost use Rattle.vc4q_module.specs.ModuleBytes.{IsModule};
 ghost use Rattle.q_io.specs.FilesMeaning.{FilesState};
 ghost use Rattle.commands.specs.Plan.{no_sources, Plan, Ends, Leads};
 ghost use Rattle.commands.specs.Buffers.{HasTextFile};
-ghost use Rattle.commands.specs.Exec.{module_line, read_schedule, ready_plan, buffers_plan, schedule_plan, exec_launch_plan, module_plan, exec_plan, RefusesModule};
+ghost use Rattle.commands.specs.Loading.{module_plan};
+ghost use Rattle.commands.specs.Exec.{read_schedule, ready_plan, buffers_plan, schedule_plan, exec_launch_plan, exec_plan};
 
 use crate::buffers::fill_buffers;
 use crate::launching::fill_launch;
-use crate::lines::{Line, push_number, push_text};
+use crate::loading::fill_module;
 use crate::names::{text_of, two_names};
 use crate::opening::open;
-use crate::places::{read_place, say, say_trouble};
+use crate::places::{read_place, say_trouble};
 use crate::playing::{Ready, play};
 use crate::status::Status;
-use arrayvec::ArrayVec;
 use launch_file::{Launch, Schedule};
 use q_io::{Files, Sink, Text};
 use std::alloc::Global;
-use vc4q_module::{ModFault, Module};
-
-/// 40 bytes, and 2^24 words of 8.
-const MODULE_LIMIT: u64 = 134_217_768;
+use vc4q_module::Module;
 
 const SCHEDULE_LIMIT: u64 = 16_777_216;
-
-/// The line of a module whose first failing test has this place.
-#[tactic(auto, unfolding(crate::specs::Exec::module_line))]
-fn line_of_module(place: u32) -> Line
-    ensures { result.items ≡ module_line place }
-{
-    let mut line = ArrayVec::new();
-    push_text(&mut line, b"bad module ");
-    push_number(&mut line, u64::from(place));
-    push_text(&mut line, b"\n");
-    line
-}
-
-/// Ends where the module isn't read.
-fn refuse_module<S: Sink>(out: &mut S, fault: ModFault) -> Status
-    ensures { RefusesModule fault (S.state out.old) (S.state out.new) result }
-{
-    match fault {
-        ModFault::At(place) => say(out, &line_of_module(place), Status::BadModule),
-        ModFault::Memory => Status::Memory,
-    }
-}
 
 /// Takes the machine's memory, and plays.
 #[tactic(auto, unfolding(crate::specs::Exec::ready_plan))]
@@ -170,8 +145,7 @@ pub fn exec_launch<F: Files, S: Sink>(
     }
 }
 
-/// From the read of the module on.
-#[tactic(auto, unfolding(crate::specs::Exec::module_plan))]
+/// From the read of the module on. `taken` are the files that the command names.
 fn exec_module<F: Files, S: Sink>(
     alloc: Global,
     taken: &[Text],
@@ -180,16 +154,12 @@ fn exec_module<F: Files, S: Sink>(
     files: &mut F,
     out: &mut S,
 ) -> Status
-    ensures { Ends no_sources true (module_plan taken.now module_name.now launch_name.now)
+    ensures { Ends no_sources true (module_plan module_name.now (λ code. exec_launch_plan taken.now code launch_name.now))
         (F.state files.old) (S.state out.old) (F.state files.new) (S.state out.new) result }
 {
-    let bytes = match read_place(files, module_name, MODULE_LIMIT) {
-        Ok(bytes) => bytes,
-        Err(trouble) => return say_trouble(out, trouble, module_name),
-    };
-    match vc4q_module::read(alloc, &bytes) {
+    match fill_module(alloc, module_name, files, out) {
         Ok(module) => exec_launch(alloc, module, taken, launch_name, files, out),
-        Err(fault) => refuse_module(out, fault),
+        Err(status) => status,
     }
 }
 

@@ -4,15 +4,17 @@
 ghost use Rattle.std.specs.Prelude.{◌≡◌, ◌⊎◌, true, map, string_bytes, IfSome, None};
 ghost use Rattle.q_io.specs.Rose.{Rose};
 ghost use Rattle.commands.specs.Plan.{both};
-ghost use Rattle.commands.specs.Commands.{plan_of, due_for, usage_line, Runs, first_written, IfCompile, IfExec, IfRun, IfJudge};
+ghost use Rattle.commands.specs.Commands.{plan_of, due_for, usage_line, Runs, first_written, IfCompile, IfExec, IfRun, IfJudge, IfDisasm};
 ghost use Rattle.commands.specs.Due.{EndsAsMade, AnswersAsMade, OnlyWritesMade, IsQuiet, ShortOrKept};
 ghost use Rattle.commands.specs.Lines.{Says};
 ghost use Rattle.commands.specs.ExecClauses.{ExecAnswers};
 ghost use Rattle.commands.specs.CompileClauses.{CompileAnswers, RunAnswers, CompileEnds, CompileRefuses, RunEnds, RunRefuses};
 ghost use Rattle.commands.specs.JudgeClauses.{JudgeAnswers, JudgeEnds, JudgeRefuses};
+ghost use Rattle.commands.specs.DisasmClauses.{DisasmAnswers, DisasmEnds};
 
 use crate::command::{Command, command_of};
 use crate::compiling::compile_file;
+use crate::disasm::disasm;
 use crate::exec::exec;
 use crate::judging::judge_file;
 use crate::places::say;
@@ -26,10 +28,12 @@ use std::alloc::Global;
 mod buffers;
 mod command;
 mod compiling;
+mod disasm;
 mod exec;
 mod judging;
 mod launching;
 mod lines;
+mod loading;
 mod names;
 mod opening;
 mod places;
@@ -96,6 +100,7 @@ fn run_words<C: Compiler, K: JudgedKernel + Drop, F: Files, S: Sink>(
                 turns,
             },
         ) => judge_file::<K, F, S>(alloc, source_name, kernel, launch_name, turns, files, out),
+        Some(Command::Disasm { module_name }) => disasm(alloc, module_name, files, out),
         None => say_usage(out),
     }
 }
@@ -107,7 +112,8 @@ fn run_words<C: Compiler, K: JudgedKernel + Drop, F: Files, S: Sink>(
 /// `run SRC KERNEL MODULE LAUNCH` does the one after the other. `judge SRC KERNEL LAUNCH TURNS` tells
 /// what a launch of a kernel does by the meaning of its source, where each work-item has TURNS turns:
 /// that it is safe, or the first item that goes out of bounds or needs more turns, or else the least
-/// race. All memory is taken before the machine's first step.
+/// race. `disasm MODULE` lists the words of a module, a line for each. All memory is taken before the
+/// machine's first step.
 pub fn run<C: Compiler, K: JudgedKernel + Drop, F: Files, S: Sink>(
     alloc: Global,
     words: &[String],
@@ -141,6 +147,11 @@ pub fn run<C: Compiler, K: JudgedKernel + Drop, F: Files, S: Sink>(
     // was read. No file changes.
     ensures judge { IfJudge (map string_bytes words.now) (λ source_name kernel launch_name turns.
         JudgeAnswers K.meanings source_name kernel launch_name turns
+        (F.state files.old) (S.state out.old) (F.state files.new) (S.state out.new) result) }
+
+    // The lines are those of the words of the module that was read. No file changes.
+    ensures disasm { IfDisasm (map string_bytes words.now) (λ module_name.
+        DisasmAnswers module_name
         (F.state files.old) (S.state out.old) (F.state files.new) (S.state out.new) result) }
 
     // No file changes but those that are due to be written.
@@ -192,6 +203,11 @@ pub fn run<C: Compiler, K: JudgedKernel + Drop, F: Files, S: Sink>(
         IsQuiet (F.state files.old) (S.state out.old) (F.state files.new) (S.state out.new)
         → IfJudge (map string_bytes words.now) (λ source_name kernel launch_name turns.
         JudgeEnds K.meanings source_name kernel launch_name turns tree (F.state files.old) result)) }
+
+    // A `disasm` of a module lists it then, and refuses another file, or wants memory.
+    ensures disasm_ends { IfSome (F.state files.old).told (λ tree.
+        IsQuiet (F.state files.old) (S.state out.old) (F.state files.new) (S.state out.new)
+        → IfDisasm (map string_bytes words.now) (λ module_name. DisasmEnds module_name tree result)) }
 
     // A source that violates a rule is refused then, or memory is wanting.
     ensures compile_refuses { IfSome (F.state files.old).told (λ tree.

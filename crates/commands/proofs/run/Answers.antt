@@ -7,6 +7,8 @@ use Rattle.commands.proofs.JudgeDone.{runs_judge}
 use Rattle.commands.proofs.Endings.{runs_compile_ends, runs_run_ends}
 use Rattle.commands.proofs.Refusing.{runs_compile_refuses, runs_run_refuses}
 use Rattle.commands.proofs.JudgeEndings.{runs_judge_ends, runs_judge_refuses}
+use Rattle.commands.proofs.DisasmDone.{runs_disasm}
+use Rattle.commands.proofs.DisasmEndings.{runs_disasm_ends}
 use Rattle.commands.proofs.run.Goals as goal
 
 pub returns : goal.returns
@@ -23,6 +25,7 @@ returns g c =
       exec = runs_answers sources _ _ _ _ _ _ c.run_words.ensures;
       run = runs_run sources kernels _ _ _ _ _ _ c.run_words.ensures;
       judge = runs_judge sources _ _ _ _ _ _ c.run_words.ensures;
+      disasm = runs_disasm sources _ _ _ _ _ _ c.run_words.ensures;
       files = runs_files sources _ _ _ _ _ _ c.run_words.ensures;
       memory = runs_short sources _ _ _ _ _ _ c.run_words.ensures;
       read_fault = caused.read_fault;
@@ -34,6 +37,7 @@ returns g c =
       compile_ends = runs_compile_ends sources violations _ _ _ _ _ _ c.run_words.ensures;
       run_ends = runs_run_ends sources kernels violations _ _ _ _ _ _ c.run_words.ensures;
       judge_ends = runs_judge_ends sources meanings _ _ _ _ _ _ c.run_words.ensures;
+      disasm_ends = runs_disasm_ends sources _ _ _ _ _ _ c.run_words.ensures;
       compile_refuses = runs_compile_refuses sources kernels violations _ _ _ _ _ _ c.run_words.ensures;
       run_refuses = runs_run_refuses sources kernels violations _ _ _ _ _ _ c.run_words.ensures;
       judge_refuses = runs_judge_refuses sources meanings _ _ _ _ _ _ c.run_words.ensures;

@@ -21,3 +21,8 @@ pub returns-in-Some-Judge : goal.returns-in-Some-Judge
 returns-in-Some-Judge g c =
     let step = ends_judged g.C.Compiler.language g.K.JudgedKernel.meanings _ _ _ _ _ _ _ c.judge_file.ensures in
     search (rules, step)
+
+pub returns-in-Some-Disasm : goal.returns-in-Some-Disasm
+returns-in-Some-Disasm g c =
+    let step = ends_any g.C.Compiler.language g.K.JudgedKernel.meanings _ _ _ _ _ _ _ c.disasm.ensures in
+    search (rules, step)
