@@ -1,1 +1,9 @@
 pub mod Operations
+pub mod Cuts
+pub mod Tables
+pub mod SameNames
+pub mod Places
+pub mod Digits
+pub mod SameUnits
+pub mod SameForms
+pub mod SameWords
