@@ -22,7 +22,7 @@ use Rattle.qpu_disasm.proofs.Cuts.{cut, rest_of}
 use Rattle.qpu_disasm.proofs.SameNames.{head_whole, bra_whole, same_head, same_bra}
 use Rattle.qpu_disasm.proofs.Digits.{same_eight, cut_after, eight_long}
 use Rattle.qpu_disasm.proofs.Places.{is_place, is_b, place_of_target, same_target, source_whole, same_source, b_whole, same_b, tail_opens, same_tail}
-use Rattle.qpu_disasm.proofs.SameUnits.{Fine, add_fields, mul_fields, same_add_unit, same_mul_unit, same_load}
+use Rattle.qpu_disasm.proofs.SameUnits.{Fine, add_fields, mul_fields, same_add_unit, same_mul_unit, same_write}
 
 -- ---- ALU words
 
@@ -124,8 +124,8 @@ unfolding form_text word_of
 same_ldi ac bc mc nc s t ad bd md nd v w h k e =
     let a = load_fine ac mc s ad md v h in
     let b = load_fine bc nc t bd nd w k in
-    let r1 = same_load ac bc s t ad bd _ _ a.add_fine b.add_fine (rest_of (rest_of (rest_of (rest_of (rest_of e))))) in
-    let r2 = same_load mc nc (not s) (not t) md nd _ _ a.mul_fine b.mul_fine (rest_of (rest_of r1.2)) in
+    let r1 = same_write ac bc s t ad bd _ _ a.add_fine b.add_fine (rest_of (rest_of (rest_of (rest_of (rest_of e))))) in
+    let r2 = same_write mc nc (not s) (not t) md nd _ _ a.mul_fine b.mul_fine (rest_of (rest_of r1.2)) in
     let c3 = cut_after 8 (encode_lower (to_be_bytes w32 v)) (encode_lower (to_be_bytes w32 w)) (tail_text 0 false s) (tail_text 0 false t)
     (eight_long v) (eight_long w) (rest_of (rest_of r2.2)) in
     let es : s ≡ t = (same_tail 0 0 false false s t (omega arith) (omega arith) c3.1).2 in

@@ -8,7 +8,7 @@ use Rattle.qpu_encode.specs.declared.form.Cond.{Cond}
 use Rattle.qpu_encode.specs.Codes.{add_code, mul_code, cond_code, cond_at}
 use Rattle.qpu_encode.specs.WordFields.{is_part, is_selector}
 use Rattle.qpu_encode.proofs.RoundTrip.{cond_again}
-use Rattle.qpu_disasm.specs.Listing.{add_name, mul_name, cond_name, target_text, selector_text, operands_text, add_text, mul_text, load_text}
+use Rattle.qpu_disasm.specs.Listing.{add_name, mul_name, cond_name, target_text, selector_text, operands_text, add_text, mul_text, write_text}
 use Rattle.qpu_disasm.proofs.Cuts.{opens, cut, rest_of}
 use Rattle.qpu_disasm.proofs.SameNames.{add_whole, mul_whole, cond_whole, same_add, same_mul, same_cond}
 use Rattle.qpu_disasm.proofs.Places.{is_place, target_whole, selector_whole, same_selector}
@@ -34,7 +34,7 @@ pub record Same (f g : Fields) : Type 0 where
   pub b : f.b ≡ g.b
 
 abbrev pub said : Fields → List ℕ
-said f = operands_text f.cond (target_text f.through_b f.dst) f.a f.b
+said f = operands_text f.cond f.through_b f.dst f.a f.b
 
 -- what follows the name of an operation of this number, up to what follows the unit
 abbrev pub after_name : ℕ → Fields → List ℕ → List ℕ
@@ -43,7 +43,7 @@ after_name op f more = (if op == 0 then [] else said f) ++ 32 ∷ more
 same_operands : (f g : Fields) (r s : List ℕ) → is_place f.dst ≡ true → is_place g.dst ≡ true
     → is_selector f.a ≡ true → is_selector g.a ≡ true → is_selector f.b ≡ true → is_selector g.b ≡ true
     → said f ++ 32 ∷ r ≡ said g ++ 32 ∷ s → Same f g × (r ≡ s)
-unfolding operands_text
+unfolding operands_text write_text
 same_operands f g r s pf pg af ag bf bg e =
     let e1 = rest_of (simp append_assoc at e) in
     let c1 = cut (cond_name f.cond) (cond_name g.cond) _ _ e1 (cond_whole f.cond) (cond_whole g.cond) refl refl in
@@ -133,11 +133,11 @@ same_mul_unit s t p q more others h k e =
     let r = same_after (mul_code q.op) f g more others (subst (λ o. Fine (mul_code o) f) op h) k (subst (λ o. after_name (mul_code o) f more ≡ after_name (mul_code q.op) g others) op c.1) in
     (op, r.0, r.1)
 
--- a unit of a load immediate
-pub same_load : (c d : Cond) (s t : Bool) (dst to : ℕ) (more others : List ℕ) → is_place dst ≡ true → is_place to ≡ true
-    → load_text c s dst ++ 32 ∷ more ≡ load_text d t to ++ 32 ∷ others → (c ≡ d) × (target_text s dst ≡ target_text t to) × (more ≡ others)
-unfolding load_text
-same_load c d s t dst to more others h k e =
+-- a condition and a write address
+pub same_write : (c d : Cond) (s t : Bool) (dst to : ℕ) (more others : List ℕ) → is_place dst ≡ true → is_place to ≡ true
+    → write_text c s dst ++ 32 ∷ more ≡ write_text d t to ++ 32 ∷ others → (c ≡ d) × (target_text s dst ≡ target_text t to) × (more ≡ others)
+unfolding write_text
+same_write c d s t dst to more others h k e =
     let e1 = simp append_assoc at e in
     let c1 = cut (cond_name c) (cond_name d) _ _ e1 (cond_whole c) (cond_whole d) refl refl in
     let c2 = cut (target_text s dst) (target_text t to) _ _ (rest_of c1.1) (target_whole s dst h) (target_whole t to k) refl refl in

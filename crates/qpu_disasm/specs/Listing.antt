@@ -117,24 +117,23 @@ selector_text x = if nat_lt x 6 then codes "r" ++ decimal x else if x == 6 then 
 
 -- ---- units and words
 
--- the condition of an operation, where it writes and its selectors
-unfoldable pub operands_text : Cond → List ℕ → ℕ → ℕ → List ℕ
-operands_text cond target a b =
-    codes "." ++ (cond_name cond ++ (codes " " ++ (target ++ (codes ", " ++ (selector_text a ++ (codes ", " ++ selector_text b))))))
+-- the condition of a unit and where it writes
+unfoldable pub write_text : Cond → Bool → ℕ → List ℕ
+write_text cond through_b dst = cond_name cond ++ (codes " " ++ target_text through_b dst)
+
+-- what follows the name of an operation
+unfoldable pub operands_text : Cond → Bool → ℕ → ℕ → ℕ → List ℕ
+operands_text cond through_b dst a b = codes "." ++ (write_text cond through_b dst ++ (codes ", " ++ (selector_text a ++ (codes ", " ++ selector_text b))))
 
 -- what the add unit does, and whether it writes through file B; without an operation only its name
 unfoldable pub add_text : Bool → AddPart → List ℕ
 add_text through_b add =
-    add_name add.op ++ (if add_code add.op == 0 then [] else operands_text add.cond (target_text through_b add.dst) add.a add.b)
+    add_name add.op ++ (if add_code add.op == 0 then [] else operands_text add.cond through_b add.dst add.a add.b)
 
 -- what the mul unit does
 unfoldable pub mul_text : Bool → MulPart → List ℕ
 mul_text through_b mul =
-    mul_name mul.op ++ (if mul_code mul.op == 0 then [] else operands_text mul.cond (target_text through_b mul.dst) mul.a mul.b)
-
--- a unit of a load immediate
-unfoldable pub load_text : Cond → Bool → ℕ → List ℕ
-load_text cond through_b dst = cond_name cond ++ (codes " " ++ target_text through_b dst)
+    mul_name mul.op ++ (if mul_code mul.op == 0 then [] else operands_text mul.cond through_b mul.dst mul.a mul.b)
 
 -- what stands at the end where it holds: an unpack, sf and ws
 unfoldable pub tail_text : ℕ → Bool → Bool → List ℕ
@@ -147,7 +146,7 @@ form_text (Alu head unpack add mul flags swap ra rb) =
     head_name head ++ (codes ": " ++ (add_text swap add ++ (codes " | " ++ (mul_text (not swap) mul
     ++ (codes " | A=" ++ (source_text false ra ++ (codes " B=" ++ (b_text (head_code head == 13) rb ++ tail_text unpack flags swap))))))))
 form_text (Ldi add_cond mul_cond swap add_dst mul_dst value) =
-    codes "ldi: " ++ (load_text add_cond swap add_dst ++ (codes " | " ++ (load_text mul_cond (not swap) mul_dst
+    codes "ldi: " ++ (write_text add_cond swap add_dst ++ (codes " | " ++ (write_text mul_cond (not swap) mul_dst
     ++ (codes " | " ++ (encode_lower (to_be_bytes w32 value) ++ tail_text 0 false swap)))))
 form_text (Bra cond words) = codes "bra: " ++ (bra_name cond ++ (codes " " ++ signed_decimal words))
 

@@ -9,7 +9,7 @@ ghost use Rattle.qpu_disasm.specs.Listing.{form_text, text_by, text};
 
 use crate::names::{name_of_bra, name_of_head};
 use crate::pieces::{Line, push_b, push_distance, push_source, push_text, push_value, push_word};
-use crate::units::{push_add, push_load, push_mul, push_tail};
+use crate::units::{push_add, push_mul, push_tail, push_write};
 use arrayvec::ArrayVec;
 use qpu_encode::{BraCond, Cond, Form, Head, Instr, decode};
 
@@ -33,9 +33,9 @@ fn line_of_load(
 {
     let mut line = ArrayVec::new();
     push_text(&mut line, b"ldi: ");
-    push_load(&mut line, add_cond, swap, add_dst);
+    push_write(&mut line, add_cond, swap, add_dst);
     push_text(&mut line, b" | ");
-    push_load(&mut line, mul_cond, !swap, mul_dst);
+    push_write(&mut line, mul_cond, !swap, mul_dst);
     push_text(&mut line, b" | ");
     push_value(&mut line, value);
     push_tail(&mut line, 0, false, swap);

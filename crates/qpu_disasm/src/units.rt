@@ -2,23 +2,33 @@
 
 ghost use Rattle.std.specs.Prelude.{◌≡◌, ◌+◌, ◌≤◌, ◌<◌, ◌++◌};
 ghost use Rattle.arrayvec.specs.ArrayVec.{array_vec_len};
-ghost use Rattle.qpu_disasm.specs.Listing.{target_text, operands_text, add_text, mul_text, load_text, tail_text};
+ghost use Rattle.qpu_disasm.specs.Listing.{write_text, operands_text, add_text, mul_text, tail_text};
 
 use crate::names::{name_of_add, name_of_cond, name_of_mul};
 use crate::pieces::{Line, push_number, push_selector, push_target, push_text};
 use qpu_encode::{AddOp, AddPart, Cond, MulOp, MulPart};
 
-// Appends what follows the name of an operation: its condition, where it writes and its selectors.
-#[tactic(auto, unfolding(crate::specs::Listing::operands_text))]
-fn push_operands(line: &mut Line, cond: Cond, through_b: bool, dst: u8, a: u8, b: u8)
-    requires { array_vec_len line.old + 26 ≤ 128 }
-    ensures items { line.new.items ≡ line.old.items ++ operands_text cond (target_text through_b dst) a b }
-    ensures len { array_vec_len line.new ≤ array_vec_len line.old + 26 }
+/// Appends the condition of a unit and where it writes.
+#[tactic(auto, unfolding(crate::specs::Listing::write_text))]
+pub fn push_write(line: &mut Line, cond: Cond, through_b: bool, dst: u8)
+    requires { array_vec_len line.old + 13 ≤ 128 }
+    ensures items { line.new.items ≡ line.old.items ++ write_text cond through_b dst }
+    ensures len { array_vec_len line.new ≤ array_vec_len line.old + 13 }
 {
-    push_text(line, b".");
     push_text(line, name_of_cond(cond));
     push_text(line, b" ");
     push_target(line, through_b, dst);
+}
+
+// Appends what follows the name of an operation.
+#[tactic(auto, unfolding(crate::specs::Listing::operands_text))]
+fn push_operands(line: &mut Line, cond: Cond, through_b: bool, dst: u8, a: u8, b: u8)
+    requires { array_vec_len line.old + 26 ≤ 128 }
+    ensures items { line.new.items ≡ line.old.items ++ operands_text cond through_b dst a b }
+    ensures len { array_vec_len line.new ≤ array_vec_len line.old + 26 }
+{
+    push_text(line, b".");
+    push_write(line, cond, through_b, dst);
     push_text(line, b", ");
     push_selector(line, a);
     push_text(line, b", ");
@@ -51,18 +61,6 @@ pub fn push_mul(line: &mut Line, through_b: bool, mul: &MulPart)
         MulOp::Nop => {}
         _ => push_operands(line, mul.cond, through_b, mul.dst, mul.a, mul.b),
     }
-}
-
-/// Appends what a unit of a load immediate does.
-#[tactic(auto, unfolding(crate::specs::Listing::load_text))]
-pub fn push_load(line: &mut Line, cond: Cond, through_b: bool, dst: u8)
-    requires { array_vec_len line.old + 13 ≤ 128 }
-    ensures items { line.new.items ≡ line.old.items ++ load_text cond through_b dst }
-    ensures len { array_vec_len line.new ≤ array_vec_len line.old + 13 }
-{
-    push_text(line, name_of_cond(cond));
-    push_text(line, b" ");
-    push_target(line, through_b, dst);
 }
 
 /// Appends what stands at the end.
