@@ -1,15 +1,15 @@
 -- What `disasm` has done where it ends.
-use Rattle.std.proofs.Common.{◌≡◌, ◌≢◌, ◌⊎◌, inl, inr, ℕ, Bool, true, false, cond, List, [], ◌∷◌, refl, sym, ap, ◌∙◌, subst}
-use Rattle.std.specs.Prelude.{Option, Some, None, bytes_eq, codes}
+use Rattle.std.proofs.Common.{◌≡◌, inl, inr, ℕ, Bool, true, cond, List, [], ◌∷◌, subst}
+use Rattle.std.specs.Prelude.{Option, Some, None, codes}
 use Rattle.std.proofs.lemmas.Slice.Eq.{bytes_eq-Decides}
 use Rattle.q_io.specs.FilesMeaning.{FilesState}
 use Rattle.q_io.specs.SinkMeaning.{SinkState}
 use Rattle.vc4q_module.specs.ModuleBytes.{ModuleOf, module_in, first_fault as module_fault}
 use Rattle.promise.specs.Language.{Sources}
-use Rattle.commands.specs.Plan.{Plan, Ends}
+use Rattle.commands.specs.Plan.{Ends}
 use Rattle.commands.specs.Loading.{after_module, module_plan}
 use Rattle.commands.specs.Disasm.{listing, list_plan, disasm_plan}
-use Rattle.commands.specs.DisasmClauses.{Listed, DisasmAnswers}
+use Rattle.commands.specs.DisasmClauses.{DisasmAnswers}
 use Rattle.commands.specs.Commands.{plan_of, Runs, IfDisasm}
 use Rattle.commands.proofs.ExecDone.{IsOutside, says_cases, short_outside, ModuleEnd, unread_module, unfit_module, loaded, loading}
 use Rattle.commands.proofs.RunDone.{outside_early, outside_not}

@@ -1,6 +1,6 @@
 -- A `disasm` of a file comes to its end.
-use Rattle.std.proofs.Common.{◌≡◌, ◌⊎◌, inl, inr, ℕ, ◌≤◌, Bool, cond, List, [], ◌∷◌, length, refl, sym, ap, ◌∙◌, subst}
-use Rattle.std.specs.Prelude.{Option, Some, None, IfSome, bytes_eq, codes}
+use Rattle.std.proofs.Common.{◌≡◌, inl, inr, ℕ, ◌≤◌, cond, List, [], ◌∷◌, length, refl, ap, ◌∙◌, subst}
+use Rattle.std.specs.Prelude.{Option, Some, None, IfSome, codes}
 use Rattle.std.proofs.lemmas.Slice.Eq.{bytes_eq-Decides}
 use Rattle.q_io.specs.FilesMeaning.{Tree, FilesState}
 use Rattle.q_io.specs.SinkMeaning.{SinkState}
@@ -14,7 +14,6 @@ use Rattle.commands.specs.Commands.{plan_of, due_for, Runs, IfDisasm}
 use Rattle.commands.proofs.EndsAsDue.{told_at, due_found}
 use Rattle.commands.proofs.Clauses.{if_told, runs_quiet}
 use Rattle.commands.specs.declared.status.Status.{Status}
-use Rattle.commands.specs.declared.status.Status.TheVariants.{Memory}
 
 fault_status : (fault : Option ℕ) (code : ModuleOf) (tree : Tree) (all : List Made) → (due_of (after_module fault list_plan code) tree all).status ≡ disasm_status fault
 fault_status None code tree all = refl

@@ -3,10 +3,11 @@
 
 ghost use Rattle.std.specs.Prelude.{◌≡◌, ◌⊎◌, map, string_bytes, true, IfSome, None};
 ghost use Rattle.q_io.specs.Rose.{Rose};
-ghost use Rattle.commands.specs.Commands.{plan_of, due_for, usage_line, first_written, IfCompile, IfExec, IfRun, IfJudge};
+ghost use Rattle.commands.specs.Commands.{plan_of, due_for, usage_line, first_written, IfCompile, IfExec, IfRun, IfJudge, IfDisasm};
 ghost use Rattle.commands.specs.Due.{IsQuiet, ShortOrKept};
 ghost use Rattle.commands.specs.Lines.{Says};
 ghost use Rattle.commands.specs.ExecClauses.{ExecAnswers};
+ghost use Rattle.commands.specs.DisasmClauses.{DisasmAnswers, DisasmEnds};
 ghost use Rattle.vc4c_core.specs.Clauses.{Runs, EndsAsMade, AnswersAsMade, OnlyWritesMade, CompileAnswers, RunAnswers, CompileEnds, CompileRefuses, RunEnds, RunRefuses, JudgeAnswers, JudgeEnds, JudgeRefuses};
 
 use crate::compiler::OpenClCompiler;
@@ -25,7 +26,8 @@ mod judge;
 /// `run SRC KERNEL MODULE LAUNCH` does the one after the other. `judge SRC KERNEL LAUNCH TURNS` tells
 /// what a launch of a kernel does by the meaning of its source, where each work-item has TURNS turns:
 /// that it is safe, or the first item that goes out of bounds or needs more turns, or else the least
-/// race. All memory is taken before the machine's first step.
+/// race. `disasm MODULE` lists the words of a module, a line for each. All memory is taken before the
+/// machine's first step.
 pub fn run<F: Files, S: Sink>(alloc: Global, words: &[String], files: &mut F, out: &mut S) -> Status
     // Usage is answered only where the words are of no form, and then its line is all that is done.
     ensures usage { result ≡ Status.Usage → plan_of (map string_bytes words.now) ≡ None }
@@ -54,6 +56,11 @@ pub fn run<F: Files, S: Sink>(alloc: Global, words: &[String], files: &mut F, ou
     // was read. No file changes.
     ensures judge { IfJudge (map string_bytes words.now) (λ source_name kernel launch_name turns.
         JudgeAnswers source_name kernel launch_name turns
+        (F.state files.old) (S.state out.old) (F.state files.new) (S.state out.new) result) }
+
+    // The lines are those of the words of the module that was read. No file changes.
+    ensures disasm { IfDisasm (map string_bytes words.now) (λ module_name.
+        DisasmAnswers module_name
         (F.state files.old) (S.state out.old) (F.state files.new) (S.state out.new) result) }
 
     // No file changes but those that are due to be written.
@@ -105,6 +112,11 @@ pub fn run<F: Files, S: Sink>(alloc: Global, words: &[String], files: &mut F, ou
         IsQuiet (F.state files.old) (S.state out.old) (F.state files.new) (S.state out.new)
         → IfJudge (map string_bytes words.now) (λ source_name kernel launch_name turns.
         JudgeEnds source_name kernel launch_name turns tree (F.state files.old) result)) }
+
+    // A `disasm` of a module lists it then, and refuses another file, or wants memory.
+    ensures disasm_ends { IfSome (F.state files.old).told (λ tree.
+        IsQuiet (F.state files.old) (S.state out.old) (F.state files.new) (S.state out.new)
+        → IfDisasm (map string_bytes words.now) (λ module_name. DisasmEnds module_name tree result)) }
 
     // A source that violates a rule is refused then, or memory is wanting.
     ensures compile_refuses { IfSome (F.state files.old).told (λ tree.
