@@ -9,7 +9,7 @@ use std::rt::Files;
 use std::{fs, io};
 
 /// The files of rows. The names of the first hold in all of them.
-const ROW_FILES: [&str; 11] = [
+const ROW_FILES: [&str; 12] = [
     "names.txt",
     "words.txt",
     "runs.txt",
@@ -20,6 +20,7 @@ const ROW_FILES: [&str; 11] = [
     "turns.txt",
     "values.txt",
     "verdicts.txt",
+    "listings.txt",
     "faults.txt",
 ];
 
