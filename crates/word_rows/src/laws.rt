@@ -2,7 +2,7 @@
 
 use q_lane::Lanes;
 
-/// Calls each law of the four crates.
+/// Calls each law of the five crates.
 pub fn call_each() {
     q_lane::law_length(&Lanes::<1> { words: [0] });
     q_lane::law_words();
@@ -12,6 +12,7 @@ pub fn call_each() {
     q_lane::law_rotations();
     qpu_encode::law_words();
     qpu_encode::law_fields();
+    qpu_disasm::law_lines_differ();
     vpm_words::law_rules();
     vpm_words::law_elements();
     vpm_words::law_moves();

@@ -8,6 +8,7 @@ mod accesses;
 mod forms;
 mod lanes;
 mod laws;
+mod lines;
 mod moves;
 mod parts;
 mod queues;
@@ -31,6 +32,7 @@ enum File {
     Vectors,
     Words,
     Fields,
+    Lines,
     Values,
     Setups,
     Regions,
@@ -41,11 +43,12 @@ enum File {
     Uses,
 }
 
-const FILES: [File; 12] = [
+const FILES: [File; 13] = [
     File::Lanes,
     File::Vectors,
     File::Words,
     File::Fields,
+    File::Lines,
     File::Values,
     File::Setups,
     File::Regions,
@@ -63,6 +66,7 @@ impl File {
             File::Vectors => "vectors.txt",
             File::Words => "words.txt",
             File::Fields => "fields.txt",
+            File::Lines => "lines.txt",
             File::Values => "values.txt",
             File::Setups => "setups.txt",
             File::Regions => "regions.txt",
@@ -81,6 +85,7 @@ impl File {
             File::Vectors => vectors::answer(alloc, parts),
             File::Words => words::answer(alloc, parts),
             File::Fields => words::answer_of_field(alloc, parts),
+            File::Lines => lines::answer(alloc, parts),
             File::Values => values::answer(alloc, parts),
             File::Setups => setups::answer(alloc, parts),
             File::Regions => regions::answer(alloc, parts),
