@@ -1,7 +1,7 @@
 //! Trees that are made by hand: proper ones, and others, of which the parser gives none. A part is kept in a box while more is made that may
-//! fail, so that dropping it there is no matter of its form.
+//! fail, so that dropping it there is no matter of its form. For the same reason all tokens of a form are read before it is made.
 
-use clc_lexer::{LexFault, LexRule, Token, lex};
+use clc_lexer::{LexFault, Mark, Tok, Token, lex};
 use clc_proper::proper;
 use clc_tree::{
     Assign, Block, BlockPart, Cast, Chain, ChainStep, Cond, Else, Expr, Function, If, Post,
@@ -12,13 +12,29 @@ use sqlite_items::{Boxed, Items};
 use std::alloc::{AllocError, Global};
 use tree_text::put_token;
 
-/// The last token of a text.
-fn token(alloc: Global, text: &str) -> Result<Token, LexFault> {
+/// The tokens of a text, the last one first.
+fn reversed(alloc: Global, text: &str) -> Result<Vec<Token>, LexFault> {
     let mut tokens = lex(alloc, text.as_bytes())?;
-    tokens.pop().ok_or(LexFault::Rule {
-        rule: LexRule::L2,
-        at: 0,
-    })
+    tokens.reverse();
+    Ok(tokens)
+}
+
+/// The next one of such tokens, a comma where there is none.
+fn next(tokens: &mut Vec<Token>) -> Token {
+    match tokens.pop() {
+        Some(token) => token,
+        None => Token {
+            kind: Tok::Mark(Mark::Comma),
+            from: 0,
+            to: 0,
+        },
+    }
+}
+
+/// The first token of a text, a comma where there is none.
+fn token(alloc: Global, text: &str) -> Result<Token, LexFault> {
+    let mut tokens = reversed(alloc, text)?;
+    Ok(next(&mut tokens))
 }
 
 fn operand(alloc: Global, primary: Primary) -> Chain {
@@ -33,10 +49,11 @@ fn named(alloc: Global, name: &str) -> Result<Boxed<Chain>, LexFault> {
 
 /// `a`, an operator and an operand
 fn level(alloc: Global, operator: &str, operand: Boxed<Chain>) -> Result<Boxed<Chain>, LexFault> {
+    let first = named(alloc, "a")?;
     let operator = token(alloc, operator)?;
     let operand = operand.into_inner();
-    let steps = Items::from_vec(vec![in alloc; ChainStep { operator, operand }]?);
-    let first = named(alloc, "a")?;
+    let mut steps = Items::new(alloc);
+    steps.push(ChainStep { operator, operand })?;
     Ok(Boxed::new(alloc, Chain::Level(first, steps))?)
 }
 
@@ -55,9 +72,27 @@ fn eval(alloc: Global, chain: Boxed<Chain>) -> Result<Boxed<Stmt>, LexFault> {
 
 /// `else d;`
 fn other(alloc: Global) -> Result<Option<Boxed<Else>>, LexFault> {
+    let body = eval(alloc, named(alloc, "d")?)?;
     let word = token(alloc, "else")?;
-    let body = eval(alloc, named(alloc, "d")?)?.into_inner();
+    let body = body.into_inner();
     Ok(Some(Boxed::new(alloc, Else { word, body })?))
+}
+
+/// An `if` whose word and marks these tokens are.
+fn chosen(
+    tokens: &mut Vec<Token>,
+    test: Expr,
+    body: Boxed<Stmt>,
+    other: Option<Boxed<Else>>,
+) -> Stmt {
+    Stmt::If(If {
+        word: next(tokens),
+        opening: next(tokens),
+        test,
+        closing: next(tokens),
+        body,
+        other,
+    })
 }
 
 fn choice(
@@ -67,18 +102,9 @@ fn choice(
     other: Option<Boxed<Else>>,
 ) -> Result<Boxed<Stmt>, LexFault> {
     let test = named(alloc, test)?;
-    let word = token(alloc, "if")?;
-    let opening = token(alloc, "(")?;
-    let closing = token(alloc, ")")?;
-    let chosen = Stmt::If(If {
-        word,
-        opening,
-        test: expr(alloc, test),
-        closing,
-        body,
-        other,
-    });
-    Ok(Boxed::new(alloc, chosen)?)
+    let mut tokens = reversed(alloc, "if()")?;
+    let test = expr(alloc, test);
+    Ok(Boxed::new(alloc, chosen(&mut tokens, test, body, other))?)
 }
 
 /// `if(a)if(b)c;else d;`, where the `else` is that of the inner `if` or else of the outer one
@@ -113,26 +139,37 @@ fn statement(alloc: Global, form: &str, rest: &str) -> Result<Boxed<Stmt>, LexFa
     eval(alloc, chain(alloc, form, rest)?)
 }
 
+/// A function of these tokens and of what stands in its body.
+fn function(tokens: &mut Vec<Token>, parts: Items<BlockPart>) -> Function {
+    Function {
+        lead: None,
+        returns: Returns::Void(next(tokens)),
+        name: next(tokens),
+        opening: next(tokens),
+        params: None,
+        closing: next(tokens),
+        body: Block {
+            opening: next(tokens),
+            parts,
+            closing: next(tokens),
+        },
+    }
+}
+
 /// `void f(){` and a statement and `}`
 fn program(alloc: Global, statement: Boxed<Stmt>) -> Result<Tree, LexFault> {
-    let part = BlockPart::Stmt(statement.into_inner());
-    let parts = Items::from_vec(vec![in alloc; part]?);
-    let function = Function {
-        lead: None,
-        returns: Returns::Void(token(alloc, "void")?),
-        name: token(alloc, "f")?,
-        opening: token(alloc, "(")?,
-        params: None,
-        closing: token(alloc, ")")?,
-        body: Block {
-            opening: token(alloc, "{")?,
-            parts,
-            closing: token(alloc, "}")?,
-        },
-    };
-    Ok(Tree {
-        functions: Items::from_vec(vec![in alloc; function]?),
-    })
+    let mut tokens = reversed(alloc, "void f(){}")?;
+    let mut parts = Items::new(alloc);
+    parts.push(BlockPart::Stmt(statement.into_inner()))?;
+    let mut functions = Items::new(alloc);
+    functions.push(function(&mut tokens, parts))?;
+    Ok(Tree { functions })
+}
+
+/// The tree that a row names.
+fn tree(alloc: Global, form: &str, rest: &str) -> Result<Tree, LexFault> {
+    let statement = statement(alloc, form, rest)?;
+    program(alloc, statement)
 }
 
 /// Whether a tree is proper, and its tokens in order.
@@ -151,8 +188,7 @@ pub fn answer(alloc: Global, text: &str) -> Result<String, AllocError> {
     let Some((form, rest)) = text.split_once(' ') else {
         return String::from_str(alloc, "no form");
     };
-    let made = statement(alloc, form, rest).and_then(|statement| program(alloc, statement));
-    match made {
+    match tree(alloc, form, rest) {
         Ok(tree) => described(alloc, &tree),
         Err(LexFault::Memory) => Err(AllocError),
         Err(LexFault::Rule { .. }) => String::from_str(alloc, "no tree"),
