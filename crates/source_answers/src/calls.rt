@@ -41,11 +41,8 @@ fn copy(alloc: Global, name: &str) -> Result<String, AllocError> {
         from: 0,
         to: 0,
     };
-    let copy = token.clone()?;
-    if copy == token {
-        return String::from_str(alloc, "equal");
-    }
-    String::from_str(alloc, "different")
+    let is_equal = token.clone()? == token;
+    String::from_str(alloc, if is_equal { "equal" } else { "different" })
 }
 
 /// The text of a fault.
@@ -60,25 +57,24 @@ fn fault(alloc: Global, name: &str) -> Result<String, AllocError> {
     format!(in alloc; "{fault}")
 }
 
-/// The name and the spelling of a mark or a word of the tables, by its number there.
-fn entry(alloc: Global, table: &str, number: &str) -> Result<String, AllocError> {
+/// The name and the spelling of a word of the table, by its number there.
+fn word_entry(alloc: Global, number: &str) -> Result<String, AllocError> {
     let number = number.parse::<usize>().unwrap_or(usize::MAX);
-    if table == "word" {
-        return match Word::ALL.get(number) {
-            Some(word) => {
-                let spelling = text_of(word.spelling());
-                format!(in alloc; "{word:?} {spelling}")
-            }
-            None => String::from_str(alloc, "no word"),
-        };
-    }
-    match Mark::ALL.get(number) {
-        Some(mark) => {
-            let spelling = text_of(mark.spelling());
-            format!(in alloc; "{mark:?} {spelling}")
-        }
-        None => String::from_str(alloc, "no mark"),
-    }
+    let Some(word) = Word::ALL.get(number) else {
+        return String::from_str(alloc, "no word");
+    };
+    let spelling = text_of(word.spelling());
+    format!(in alloc; "{word:?} {spelling}")
+}
+
+/// The name and the spelling of a mark of the table, by its number there.
+fn mark_entry(alloc: Global, number: &str) -> Result<String, AllocError> {
+    let number = number.parse::<usize>().unwrap_or(usize::MAX);
+    let Some(mark) = Mark::ALL.get(number) else {
+        return String::from_str(alloc, "no mark");
+    };
+    let spelling = text_of(mark.spelling());
+    format!(in alloc; "{mark:?} {spelling}")
 }
 
 /// How tightly a mark binds as a binary operator.
@@ -114,7 +110,8 @@ pub fn answer(alloc: Global, text: &str) -> Result<String, AllocError> {
         }
         "copy" => copy(alloc, rest),
         "fault" => fault(alloc, rest),
-        "mark" | "word" => entry(alloc, call, rest),
+        "mark" => mark_entry(alloc, rest),
+        "word" => word_entry(alloc, rest),
         "rank" => tightness(alloc, rest),
         _ => String::from_str(alloc, "no call"),
     }

@@ -5,15 +5,6 @@ use compile_pipe::{Refusal, SourceRule, compile};
 use std::alloc::{AllocError, Global};
 use vc4q_module::Module;
 
-/// What a row asks for.
-#[derive(Clone, Copy)]
-pub enum Kind {
-    /// The first rule on bytes, of the grammar or of types that a source violates.
-    Source,
-    /// The module of a kernel of a source.
-    Module,
-}
-
 fn name_of(rule: SourceRule) -> &'static str {
     str::from_utf8(rule.name()).unwrap_or("no name")
 }
@@ -40,14 +31,15 @@ fn place(alloc: Global, source: &[u8], rule: SourceRule, at: u32) -> Result<Stri
     format!(in alloc; "{name} {line} {column}")
 }
 
-/// The rule that a source violates first. The kernel that is asked for has no name, so a lawful source is refused by K1.
-fn violation(alloc: Global, source: &[u8]) -> Result<String, AllocError> {
-    match compile(alloc, source, b"") {
+/// The rule that the source of a row violates first. The kernel that is asked for has no name, so a lawful source is refused by K1.
+pub fn first_violation(alloc: Global, text: &str) -> Result<String, AllocError> {
+    let source = source_of(alloc, text)?;
+    match compile(alloc, source.as_bytes(), b"") {
         Ok(_) => String::from_str(alloc, "a module"),
         Err(Refusal::Memory) => Err(AllocError),
         Err(Refusal::Rule { rule, at }) => match rule {
             SourceRule::K1 => String::from_str(alloc, "OK"),
-            rule => place(alloc, source, rule, at),
+            rule => place(alloc, source.as_bytes(), rule, at),
         },
     }
 }
@@ -63,25 +55,18 @@ fn content(alloc: Global, module: &Module) -> Result<String, AllocError> {
     Ok(text)
 }
 
-/// The module of a kernel, or the first violated rule and its offset.
-fn module(alloc: Global, source: &[u8], kernel: &str) -> Result<String, AllocError> {
-    match compile(alloc, source, kernel.as_bytes()) {
+/// The module of a kernel and a source, with ` | ` between them, or the first violated rule and its offset.
+pub fn module_of(alloc: Global, text: &str) -> Result<String, AllocError> {
+    let Some((kernel, source)) = text.split_once(" | ") else {
+        return String::from_str(alloc, "no kernel is named");
+    };
+    let source = source_of(alloc, source)?;
+    match compile(alloc, source.as_bytes(), kernel.as_bytes()) {
         Ok(module) => content(alloc, &module),
         Err(Refusal::Memory) => Err(AllocError),
         Err(Refusal::Rule { rule, at }) => {
             let name = name_of(rule);
             format!(in alloc; "{name} at {at}")
         }
-    }
-}
-
-/// The answer to the text of a row.
-pub fn answer(alloc: Global, kind: Kind, text: &str) -> Result<String, AllocError> {
-    match (kind, text.split_once(" | ")) {
-        (Kind::Source, _) => violation(alloc, source_of(alloc, text)?.as_bytes()),
-        (Kind::Module, Some((kernel, source))) => {
-            module(alloc, source_of(alloc, source)?.as_bytes(), kernel)
-        }
-        (Kind::Module, None) => String::from_str(alloc, "no kernel is named"),
     }
 }
