@@ -11,6 +11,7 @@ use Rattle.clc_tree.specs.declared.functions.Returns.TheVariants as returns
 use Rattle.clc_tree.specs.declared.functions.Function.{Function}
 use Rattle.clc_tree.specs.declared.functions.Tree.{Tree}
 use Rattle.q_lane.specs.declared.kinds.Scalar.{Scalar}
+use Rattle.clc_types.specs.declared.type_rule.TypeRule.TheVariants.{S2, S8, S14}
 use Rattle.clc_types.specs.declared.typed.TStmt.{TStmt}
 use Rattle.clc_types.specs.declared.typed.TStmt.TheVariants as st
 use Rattle.clc_types.specs.declared.typed.TFunction.{TFunction}
@@ -49,7 +50,7 @@ param_name (param.Pointer x t) = t
 
 -- S14: a 17th parameter. n parameters stand before it
 abbrev pub counted : ℕ → ℕ → Part (Unit {0})
-counted n k = record { tokens = k; at = λ c p. unless (violations p ((14, eqb n 16) ∷ [])) tt }
+counted n k = record { tokens = k; at = λ c p. unless (violations p ((S14, eqb n 16) ∷ [])) tt }
 
 abbrev pub param_piece : ℕ → Param → Piece (Unit {0})
 param_piece n x = made (λ y. tt) (seq (quiet (counted n (param_tokens x))) (declared (param_shape x) (param_name x)))
@@ -80,7 +81,7 @@ returns_tokens (returns.Value s) = type_tokens s
 abbrev pub heading : List (List ℕ) → Function → Part (Unit {0})
 heading fs f = record {
   tokens = 1;
-  at = λ c p. unless (violations p ((2, is_some (outermost fs (name_of f.name))) ∷ (8, is_kernel f.lead && is_some (result_of f.returns)) ∷ [])) tt;
+  at = λ c p. unless (violations p ((S2, is_some (outermost fs (name_of f.name))) ∷ (S8, is_kernel f.lead && is_some (result_of f.returns)) ∷ [])) tt;
 }
 
 -- what is before the parameters

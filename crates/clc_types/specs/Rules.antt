@@ -5,6 +5,7 @@ use Rattle.clc_lexer.specs.declared.marks.Mark.{Mark}
 use Rattle.clc_lexer.specs.declared.marks.Mark.TheVariants as m
 use Rattle.q_lane.specs.declared.kinds.Scalar.{Scalar}
 use Rattle.q_lane.specs.declared.kinds.Scalar.TheVariants.{Char, Uchar, Short, Ushort, Int, Uint}
+use Rattle.clc_types.specs.declared.type_rule.TypeRule.TheVariants.{S3, S4, S5, S6, S7, S8, S9, S12, S13}
 use Rattle.clc_types.specs.declared.typed.Builtin.{Builtin}
 use Rattle.clc_types.specs.declared.typed.Builtin.TheVariants as b
 use Rattle.clc_types.specs.declared.typed.Ty.{Ty}
@@ -113,27 +114,27 @@ result_kind (Some s) = k.Value s
 
 -- S3: a value is needed; S12: a scalar is needed
 abbrev pub scalar_needed : ℕ → Kind → List Fault
-scalar_needed p t = violations p ((3, is_void t) ∷ (12, is_pointer t || is_array t) ∷ [])
+scalar_needed p t = violations p ((S3, is_void t) ∷ (S12, is_pointer t || is_array t) ∷ [])
 
 -- S3, S12: what stands before `[` is a pointer or an array
 abbrev pub indexed_needed : ℕ → Kind → List Fault
-indexed_needed p t = violations p ((3, is_void t) ∷ (12, is_scalar t) ∷ [])
+indexed_needed p t = violations p ((S3, is_void t) ∷ (S12, is_scalar t) ∷ [])
 
 -- S3, S12: what stands after `*` is a pointer
 abbrev pub pointer_needed : ℕ → Kind → List Fault
-pointer_needed p t = violations p ((3, is_void t) ∷ (12, is_scalar t || is_array t) ∷ [])
+pointer_needed p t = violations p ((S3, is_void t) ∷ (S12, is_scalar t || is_array t) ∷ [])
 
 -- S12: an array stands before `[` alone
 abbrev pub no_array : ℕ → Kind → List Fault
-no_array p t = violations p ((12, is_array t) ∷ [])
+no_array p t = violations p ((S12, is_array t) ∷ [])
 
 -- S3, S12: a variable gets a value
 abbrev pub fit_needed : (place : Kind) → ℕ → Kind → List Fault
-fit_needed t q a = violations q ((3, is_void a) ∷ (12, not (is_void a) && not (matches t a)) ∷ [])
+fit_needed t q a = violations q ((S3, is_void a) ∷ (S12, not (is_void a) && not (matches t a)) ∷ [])
 
 -- S3, S4, S5, S12: the operand of `++` or `--`
 abbrev pub step_needs : ℕ → Form → List Fault
-step_needs p x = violations p ((3, is_void x.kind) ∷ (4, is_nowhere x.place) ∷ (5, is_constant x.place) ∷ (12, is_array x.kind) ∷ [])
+step_needs p x = violations p ((S3, is_void x.kind) ∷ (S4, is_nowhere x.place) ∷ (S5, is_constant x.place) ∷ (S12, is_array x.kind) ∷ [])
 
 abbrev pub index_needs : ℕ → Form → ℕ → Form → List Fault
 index_needs p x q y = indexed_needed p x.kind ++ scalar_needed q y.kind
@@ -154,8 +155,8 @@ is_plus _ = false
 abbrev pub operands_needed : Mark → ℕ → Kind → ℕ → Kind → List Fault
 operands_needed m.Comma p a q b = no_array p a ++ no_array q b
 operands_needed o p a q b =
-    violations p ((3, is_void a) ∷ (12, is_array a || (is_pointer a && not (is_sum o))) ∷ [])
-    ++ violations q ((3, is_void b) ∷ (12, is_array b || (is_pointer b && not (is_plus o && is_scalar a))) ∷ [])
+    violations p ((S3, is_void a) ∷ (S12, is_array a || (is_pointer a && not (is_sum o))) ∷ [])
+    ++ violations q ((S3, is_void b) ∷ (S12, is_array b || (is_pointer b && not (is_plus o && is_scalar a))) ∷ [])
 
 abbrev pub operator_needs : Mark → ℕ → Sofar → ℕ → Form → List Fault
 operator_needs o p a q y = operands_needed o p a.kind q y.kind
@@ -255,11 +256,11 @@ gets o a b = is_scalar b
 
 -- S3, S4, S5, S12: what is assigned to
 abbrev pub assigned_needed : Mark → ℕ → Kind → Place → List Fault
-assigned_needed o p t x = violations p ((3, is_void t) ∷ (4, is_nowhere x) ∷ (5, is_constant x) ∷ (12, is_array t || (is_pointer t && not (takes_pointer o))) ∷ [])
+assigned_needed o p t x = violations p ((S3, is_void t) ∷ (S4, is_nowhere x) ∷ (S5, is_constant x) ∷ (S12, is_array t || (is_pointer t && not (takes_pointer o))) ∷ [])
 
 -- S3, S12: the value that is assigned
 abbrev pub value_needed : Mark → Kind → ℕ → Kind → List Fault
-value_needed o t q a = violations q ((3, is_void a) ∷ (12, not (is_void a) && not (gets o t a)) ∷ [])
+value_needed o t q a = violations q ((S3, is_void a) ∷ (S12, not (is_void a) && not (gets o t a)) ∷ [])
 
 abbrev pub assign_needs : Mark → ℕ → Form → ℕ → Form → List Fault
 assign_needs o p x q y = assigned_needed o p x.kind x.place ++ value_needed o x.kind q y.kind
@@ -270,7 +271,7 @@ assign_needs o p x q y = assigned_needed o p x.kind x.place ++ value_needed o x.
 abbrev pub fits : List Shape → List Argument → List Fault
 fits [] xs = []
 fits (s ∷ ss) [] = []
-fits (s ∷ ss) (x ∷ xs) = violations x.place ((7, not (matches (kind_of 0 s) x.kind)) ∷ []) ++ fits ss xs
+fits (s ∷ ss) (x ∷ xs) = violations x.place ((S7, not (matches (kind_of 0 s) x.kind)) ∷ []) ++ fits ss xs
 
 -- a function that must not be called from another one, since it would be too high then
 abbrev pub is_highest : Option ℕ → Bool
@@ -282,9 +283,9 @@ abbrev pub signed_needs : ℕ → Home → ℕ → Option Signature → List Arg
 signed_needs p home f None args = []
 signed_needs p home f (Some s) args =
     violations p
-    ((6, not (eqb (length s.params) (length args)))
-    ∷ (8, s.kernel && not (eqb f (length home.heights)))
-    ∷ (9, eqb f (length home.heights) || is_highest (slice_get home.heights f)) ∷ [])
+    ((S6, not (eqb (length s.params) (length args)))
+    ∷ (S8, s.kernel && not (eqb f (length home.heights)))
+    ∷ (S9, eqb f (length home.heights) || is_highest (slice_get home.heights f)) ∷ [])
     ++ fits s.params args
 
 abbrev pub call_needs : ℕ → Home → ℕ → List Argument → List Fault
@@ -333,7 +334,7 @@ builtin_params b.SubSat = number ∷ number ∷ []
 
 -- S6, S7
 abbrev pub builtin_needs : ℕ → Builtin → List Argument → List Fault
-builtin_needs p f args = violations p ((6, not (eqb (length (builtin_params f)) (length args))) ∷ []) ++ fits (builtin_params f) args
+builtin_needs p f args = violations p ((S6, not (eqb (length (builtin_params f)) (length args))) ∷ []) ++ fits (builtin_params f) args
 
 -- all arguments are of one type, or some is a uint
 abbrev pub all_are : Scalar → List Argument → Bool
@@ -383,12 +384,12 @@ gives _ s = s
 
 -- S13: a value is returned where the function gives one, and only there
 abbrev pub return_needs : Option Scalar → ℕ → Kind → List Fault
-return_needs None p a = violations p ((13, true) ∷ [])
-return_needs (Some s) p a = violations p ((13, not (is_scalar a)) ∷ [])
+return_needs None p a = violations p ((S13, true) ∷ [])
+return_needs (Some s) p a = violations p ((S13, not (is_scalar a)) ∷ [])
 
 abbrev pub bare_needs : Option Scalar → ℕ → List Fault
 bare_needs None p = []
-bare_needs (Some s) p = violations p ((13, true) ∷ [])
+bare_needs (Some s) p = violations p ((S13, true) ∷ [])
 
 -- S11: an array has from 1 to 1,024 elements
 abbrev pub is_size : ℕ → Bool

@@ -5,6 +5,7 @@ use Rattle.clc_tree.specs.declared.functions.ParamStep.{ParamStep}
 use Rattle.clc_tree.specs.declared.functions.Params.{Params}
 use Rattle.clc_tree.specs.declared.functions.Params.TheVariants as params
 use Rattle.clc_tree.specs.declared.functions.Function.{Function}
+use Rattle.clc_types.specs.declared.type_rule.TypeRule.TheVariants.{S2, S8, S14}
 use Rattle.clc_types.specs.declared.typed.TStmt.{TStmt}
 use Rattle.clc_types.specs.declared.typed.TStmt.TheVariants as st
 use Rattle.clc_types.specs.declared.typed.TFunction.{TFunction}
@@ -17,7 +18,7 @@ use Rattle.clc_types.specs.Walk.{Walked, Right, guarded, bump}
 use Rattle.clc_types.specs.Steps.{View, Stepped, Goes, and_then, reach, number, skipped, left, declared_in, knows_in, walk_block}
 
 unfoldable pub counted_in : ℕ → ℕ → ℕ → Walked (Unit {0})
-counted_in n k p = guarded (violations p ((14, eqb n 16) ∷ [])) (Right tt (bump p k))
+counted_in n k p = guarded (violations p ((S14, eqb n 16) ∷ [])) (Right tt (bump p k))
 
 abbrev pub param_walk : ℕ → Param → View → Stepped (Unit {0})
 param_walk n x v = and_then (reach v (counted_in n (param_tokens x) v.at)) (λ y u. and_then (declared_in u (name_of (param_name x)) (param_shape x)) (λ m w. Goes tt w))
@@ -34,7 +35,7 @@ params_in (Some (params.List x xs)) v = and_then (param_walk 0 x v) (λ y u. fur
 
 unfoldable pub heading_in : Function → View → Stepped (Unit {0})
 heading_in f v =
-    reach v (guarded (violations v.at ((2, is_some ((knows_in v).look (name_of f.name))) ∷ (8, is_kernel f.lead && is_some (result_of f.returns)) ∷ [])) (Right tt (bump v.at 1)))
+    reach v (guarded (violations v.at ((S2, is_some ((knows_in v).look (name_of f.name))) ∷ (S8, is_kernel f.lead && is_some (result_of f.returns)) ∷ [])) (Right tt (bump v.at 1)))
 
 -- the function's name is added to the outermost block, and the function to those that may be called; a block is opened for it
 unfoldable pub begun : Function → View → View

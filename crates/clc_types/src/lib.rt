@@ -3,8 +3,10 @@
 
 mod forms;
 mod scope;
+mod type_rule;
 mod typed;
 
 pub use forms::{Argument, Fault, Form, Home, Kind, Named, Place, Shape, Signature, Sofar, Space};
 pub use scope::{Names, Scope, State};
+pub use type_rule::TypeRule;
 pub use typed::{Builtin, Node, TExpr, TFunction, TStmt, Ty, TypeFault, Typed, Var};

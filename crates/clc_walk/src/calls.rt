@@ -10,9 +10,7 @@ ghost use Rattle.clc_types.specs.declared.forms.Named.TheVariants as named;
 use crate::expressions::{broken, memory, plain, skip};
 use crate::rules::{kind_of, matches, scalar_of};
 use clc_lexer::Token;
-use clc_types::{
-    Argument, Builtin, Fault, Form, Home, Kind, Named, Node, Shape, Signature, TExpr, TypeFault,
-};
+use clc_types::{Argument, Builtin, Fault, Form, Home, Kind, Named, Node, Shape, Signature, TExpr, TypeFault, TypeRule};
 use q_lane::Scalar;
 use sqlite_items::Items;
 use std::alloc::Global;
@@ -26,7 +24,7 @@ const NUMBER: Shape = Shape::Value {
     fixed: false,
 };
 
-fn fault(token: u32, rule: u8) -> Option<Fault>
+fn fault(token: u32, rule: TypeRule) -> Option<Fault>
     ensures { result ≡ Rattle.std.specs.Prelude.Some (record { token = token; rule = rule }) }
 {
     Some(Fault { token, rule })
@@ -39,7 +37,7 @@ fn fits(params: &[Shape], args: &[Argument]) -> Option<Fault>
     for (i, param) in params.iter().enumerate() {
         let x = &args[i];
         if !matches(kind_of(0, *param), x.kind) {
-            return fault(x.place, 7);
+            return fault(x.place, TypeRule::S7);
         }
     }
     None
@@ -68,11 +66,11 @@ fn signature_needs(
 {
     let itself = function as usize == home.heights.len();
     if signature.params.len() != args.len() {
-        fault(p, 6)
+        fault(p, TypeRule::S6)
     } else if signature.kernel && !itself {
-        fault(p, 8)
+        fault(p, TypeRule::S8)
     } else if itself || is_highest(height_at(home, function)) {
-        fault(p, 9)
+        fault(p, TypeRule::S9)
     } else {
         fits(signature.params.as_slice(), args)
     }
@@ -133,7 +131,7 @@ fn builtin_needs(p: u32, which: Builtin, args: &[Argument]) -> Option<Fault>
 {
     let params = builtin_params(which);
     if params.len() != args.len() {
-        return fault(p, 6);
+        return fault(p, TypeRule::S6);
     }
     fits(params, args)
 }
@@ -276,6 +274,6 @@ pub fn call_end(
     match callee {
         Named::Function(function) => function_end(alloc, at, home, p, name, function, list),
         Named::Builtin(which) => builtin_end(alloc, at, home, p, name, which, list),
-        Named::Variable(_, _) => Err(TypeFault::Rule { rule: 1, token: p }),
+        Named::Variable(_, _) => Err(TypeFault::Rule { rule: TypeRule::S1, token: p }),
     }
 }

@@ -15,7 +15,7 @@ use crate::state::{assigned, number, pass, push};
 use crate::words::{name_of, one_if, space_of, type_of, type_tokens, value_of};
 use clc_lexer::Token;
 use clc_tree::{Declare, Init, Item, ItemStep, Pointer, Scalar as Written};
-use clc_types::{Form, Kind, Named, Shape, State, TExpr, TStmt, TypeFault};
+use clc_types::{Form, Kind, Named, Shape, State, TExpr, TStmt, TypeFault, TypeRule};
 use indexmap::IndexMap;
 use q_lane::Scalar;
 use sqlite_items::Items;
@@ -62,7 +62,7 @@ pub fn declare(
 {
     match probe(&state.scope.inner, name) {
         Some(_) => Err(TypeFault::Rule {
-            rule: 2,
+            rule: TypeRule::S2,
             token: state.at,
         }),
         None => {
@@ -88,7 +88,7 @@ fn size(at: &mut u32, token: &Token) -> Result<(), TypeFault>
     skip(at, 1);
     if !is_size(value_of(token)) {
         return Err(TypeFault::Rule {
-            rule: 11,
+            rule: TypeRule::S11,
             token: *at,
         });
     }

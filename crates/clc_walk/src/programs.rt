@@ -17,7 +17,7 @@ use crate::statements::block;
 use crate::words::{is_kernel, name_of, one_if, type_of, type_tokens};
 use clc_lexer::{Text, Token};
 use clc_tree::{Function, Param, ParamStep, Params, Returns};
-use clc_types::{Named, Shape, Signature, State, TFunction, TStmt, TypeFault, Var};
+use clc_types::{Named, Shape, Signature, State, TFunction, TStmt, TypeFault, TypeRule, Var};
 use q_lane::Scalar;
 use sqlite_items::Items;
 use std::alloc::Global;
@@ -63,7 +63,7 @@ fn counted(at: &mut u32, before: usize, tokens: u32) -> Result<(), TypeFault>
 {
     if before == MOST_PARAMS {
         return Err(TypeFault::Rule {
-            rule: 14,
+            rule: TypeRule::S14,
             token: *at,
         });
     }
@@ -185,10 +185,10 @@ fn heading(state: &mut State, f: &Function) -> Result<(), TypeFault>
 {
     let token = state.at;
     if named(&state.scope, name_of(&f.name)).is_some() {
-        return Err(TypeFault::Rule { rule: 2, token });
+        return Err(TypeFault::Rule { rule: TypeRule::S2, token });
     }
     if is_kernel(&f.lead) && result_of(&f.returns).is_some() {
-        return Err(TypeFault::Rule { rule: 8, token });
+        return Err(TypeFault::Rule { rule: TypeRule::S8, token });
     }
     skip(&mut state.at, 1);
     Ok(())

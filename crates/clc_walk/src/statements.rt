@@ -13,7 +13,7 @@ use crate::expressions::{broken, expr, memory, skip};
 use crate::rules::{bare_needs, no_array, return_needs, scalar_needed};
 use crate::state::{enter, form, leave, pass, push};
 use clc_tree::{Block, BlockPart, Do, Else, Expr, For, ForStart, If, Stmt, While};
-use clc_types::{Form, State, TExpr, TStmt, TypeFault};
+use clc_types::{Form, State, TExpr, TStmt, TypeFault, TypeRule};
 use q_lane::Scalar;
 use sqlite_items::{Boxed, Items};
 use std::alloc::{AllocError, Global};
@@ -127,11 +127,11 @@ fn returned(alloc: Global, state: &mut State, value: &Option<Expr>) -> Result<TS
 
 /// Whether a loop stands around a `break` or a `continue`.
 fn jump(state: &mut State, looped: bool) -> Result<(), TypeFault>
-    ensures { Reaches (guarded (violations state.old.at ((10, not looped) ∷ [])) (Right tt (bump state.old.at 2))) result state.old state.new }
+    ensures { Reaches (guarded (violations state.old.at ((TypeRule.S10, not looped) ∷ [])) (Right tt (bump state.old.at 2))) result state.old state.new }
 {
     if !looped {
         return Err(TypeFault::Rule {
-            rule: 10,
+            rule: TypeRule::S10,
             token: state.at,
         });
     }

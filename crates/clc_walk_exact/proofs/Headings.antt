@@ -11,6 +11,8 @@ use Rattle.clc_tree.specs.declared.functions.Function.{Function}
 use Rattle.clc_tree.specs.declared.functions.Tree.{Tree}
 use Rattle.clc_tree.specs.declared.expressions.Scalar.{Scalar as Written}
 use Rattle.clc_tree.specs.declared.expressions.Scalar.TheVariants as written
+use Rattle.clc_types.specs.declared.type_rule.TypeRule.{TypeRule}
+use Rattle.clc_types.specs.declared.type_rule.TypeRule.TheVariants.{S2, S8}
 use Rattle.clc_types.specs.declared.typed.TStmt.{TStmt}
 use Rattle.clc_types.specs.declared.typed.TStmt.TheVariants as st
 use Rattle.clc_types.specs.declared.typed.TFunction.{TFunction}
@@ -102,13 +104,13 @@ abbrev pub head_tokens : Function → ℕ
 head_tokens f = one_if f.lead + returns_tokens f.returns
 
 -- the tests of the heading
-abbrev head_tests : List (List ℕ) → Function → List (ℕ × Bool)
-head_tests fs f = (2, is_some (outermost fs (name_of f.name))) ∷ (8, is_kernel f.lead && is_some (result_of f.returns)) ∷ []
+abbrev head_tests : List (List ℕ) → Function → List (TypeRule × Bool)
+head_tests fs f = (S2, is_some (outermost fs (name_of f.name))) ∷ (S8, is_kernel f.lead && is_some (result_of f.returns)) ∷ []
 
 pub heading_inside : (c : Around) (fs : List (List ℕ)) (f : Function) (l : Bool) (from p : ℕ) → Inside p (p + (head_tokens f + 1)) (faults_of ((head fs f).at c l from p))
 heading_inside c fs f l from p =
     let q = p + head_tokens f in
-    wider q (q + 1) p (p + (head_tokens f + 1)) _ (omega arith) (omega arith) (inside_unless q (q + 1) _ tt (sound_2 q 2 8 _ _ (omega arith)).inside)
+    wider q (q + 1) p (p + (head_tokens f + 1)) _ (omega arith) (omega arith) (inside_unless q (q + 1) _ tt (sound_2 q S2 S8 _ _ (omega arith)).inside)
 
 pub heading_met : (before : Before) (p : ℕ) (f : Function) (v : View) (c : Around) → Ready before p v → p + (head_tokens f + 1) < 2 ^ 32
     → Met ((head before.names f).at c false p p) (heading_in f (skipped (head_tokens f) v)) (λ u. u ≡ at_token v (p + (head_tokens f + 1)))
@@ -123,11 +125,11 @@ heading_met before p f v c r fit =
     let look : (knows_in vq).look x ≡ outermost before.names x
     = ap (λ o. or_else o (builtin_named (builtin_of x))) (ap (λ o. known (o ++ v.inner ∷ []) x) r.outer ∙ known_last [] v.inner x ∙ none_right (found v.inner x) ∙ r.names x) in
     let J = unless (violations q (head_tests before.names f)) tt in
-    let W : Option Named → Stepped (Unit {0}) = λ o. reach vq (guarded (violations q ((2, is_some o) ∷ (8, is_kernel f.lead && is_some (result_of f.returns)) ∷ [])) (Right tt (bump q 1))) in
+    let W : Option Named → Stepped (Unit {0}) = λ o. reach vq (guarded (violations q ((S2, is_some o) ∷ (S8, is_kernel f.lead && is_some (result_of f.returns)) ∷ [])) (Right tt (bump q 1))) in
     subst (λ z. Met J (heading_in f z) (λ u. u ≡ at_token v hi)) (sym e)
     (subst (λ o. Met J (W o) (λ u. u ≡ at_token v hi)) (sym look)
     (reach_met vq hi J (guarded (violations q (head_tests before.names f)) (Right tt (bump q 1)))
-    (subst (λ z. Same hi J (guarded (violations q (head_tests before.names f)) (Right tt z))) (sym (bump_is q 1 (omega (arith, fit)) ∙ omega arith)) (guard_same hi (violations q (head_tests before.names f)) tt (sound_2 q 2 8 _ _ (omega arith)).sorted))))
+    (subst (λ z. Same hi J (guarded (violations q (head_tests before.names f)) (Right tt z))) (sym (bump_is q 1 (omega (arith, fit)) ∙ omega arith)) (guard_same hi (violations q (head_tests before.names f)) tt (sound_2 q S2 S8 _ _ (omega arith)).sorted))))
   where
     none_right : (o : Option Named) → or_else o None ≡ o
     none_right (Some y) = refl

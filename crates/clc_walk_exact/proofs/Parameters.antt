@@ -11,6 +11,7 @@ use Rattle.clc_tree.specs.declared.functions.Function.{Function}
 use Rattle.clc_tree.specs.declared.functions.Tree.{Tree}
 use Rattle.clc_tree.specs.declared.expressions.Scalar.{Scalar as Written}
 use Rattle.clc_tree.specs.declared.expressions.Scalar.TheVariants as written
+use Rattle.clc_types.specs.declared.type_rule.TypeRule.TheVariants.{S14}
 use Rattle.clc_types.specs.declared.typed.TStmt.{TStmt}
 use Rattle.clc_types.specs.declared.typed.TStmt.TheVariants as st
 use Rattle.clc_types.specs.declared.typed.TFunction.{TFunction}
@@ -60,8 +61,8 @@ module _ (fs : List (List ℕ)) (home : Home) (all : List Decl) where
   counted_stood : (n : ℕ) (x : Param) → Stood fs home all (quiet (counted n (param_tokens x))) (λ l v. reach v (counted_in n (param_tokens x) v.at))
   unfolding counted_in
   counted_stood n x =
-      quiet_stood fs home all (counted n (param_tokens x)) (λ k p. guarded (violations p ((14, eqb n 16) ∷ [])) (Right tt (bump p (param_tokens x))))
-      (λ k. tested_fair (in_force all fs) k (param_tokens x) 14 (eqb n 16) tt (param_some x))
+      quiet_stood fs home all (counted n (param_tokens x)) (λ k p. guarded (violations p ((S14, eqb n 16) ∷ [])) (Right tt (bump p (param_tokens x))))
+      (λ k. tested_fair (in_force all fs) k (param_tokens x) S14 (eqb n 16) tt (param_some x))
 
   drop_values : (s : Stepped (Unit {0})) (z : View → Stepped ℕ) → and_then (and_then {B = Unit {0} × ℕ} s (λ x u. and_then (z u) (λ y t. Goes (x, y) t))) (λ x u. finish u) ≡ and_then s (λ x u. and_then (z u) (λ y t. finish t))
   drop_values (Goes a v) z = by (z v)
