@@ -5,7 +5,9 @@ ghost use Rattle.clc_tree.specs.Flat.{flat_of};
 ghost use Rattle.clc_types.specs.Judged.{Fine};
 ghost use Rattle.clc_types.specs.Programs.{program};
 ghost use Rattle.promise.specs.declared.refusal.SourceRule.{SourceRule as AnyRule};
-ghost use Rattle.clc_front.specs.Profile.{IsSpelled, IsProgram, IsTyped, IsFirstViolation, lexical_rule as lexical_rule_of, typing_rule as typing_rule_of, place_of as place_of_token};
+ghost use Rattle.clc_front.specs.Profile.{IsSpelled, IsProgram, IsTyped, IsFirstViolation};
+ghost use Rattle.clc_front.specs.Profile.{lexical_rule as lexical_rule_of, typing_rule as typing_rule_of};
+ghost use Rattle.clc_front.specs.Profile.{place_of as place_of_token};
 
 use clc_check::check;
 use clc_lexer::{LexFault, LexRule, Token, lex};
