@@ -1,5 +1,5 @@
 -- The faults of functions and of a whole program, and its typed tree (OpenCL C 1.2, 6.7 and 6.9; C99, 6.2.1 and 6.9).
-use Rattle.std.specs.Prelude.{◌≡◌, ℕ, suc, ◌+◌, min, false, ◌&&◌, eqb, bytes_eq, if◌then◌else◌, List, [], ◌∷◌, ◌++◌, Option, Some, None, is_some, length, map, Result, Ok, Err}
+use Rattle.std.specs.Prelude.{◌≡◌, ℕ, suc, ◌+◌, false, ◌&&◌, eqb, bytes_eq, if◌then◌else◌, List, [], ◌∷◌, ◌++◌, Option, Some, None, is_some, length, map, Result, Ok, Err}
 use Rattle.clc_lexer.specs.declared.token.Token.{Token}
 use Rattle.clc_tree.specs.declared.functions.Param.{Param}
 use Rattle.clc_tree.specs.declared.functions.Param.TheVariants as param
@@ -123,10 +123,9 @@ function_at before p f =
       body = st.Block body;
     }))
 
--- one more than it reaches; 17 stands for all heights above 16. The height of a function at fault decides nothing, since its fault
--- stands before each call of it
+-- one more than it reaches. The height of a function at fault decides nothing, since its fault stands before each call of it
 abbrev pub height_in : List ℕ → Judged TFunction → ℕ
-height_in heights (Fine f) = min (suc (stmt_reach heights f.body)) 17
+height_in heights (Fine f) = suc (stmt_reach heights f.body)
 height_in heights (Faulty f fs) = 0
 
 abbrev pub with_function : Before → ℕ → Function → Before

@@ -1,6 +1,6 @@
 -- The typing rules, by the types of operands and their places, and the types that expressions get (OpenCL C 1.2, 6.2, 6.3 and 6.5;
 -- C99, 6.3.1.8 and 6.5). p, q and r are the numbers of the operands' first tokens.
-use Rattle.std.specs.Prelude.{ℕ, Bool, true, false, not, ◌&&◌, ◌||◌, eqb, nat_eq, List, [], ◌∷◌, ◌++◌, Option, Some, None, length, map, bytes_eq, slice_get}
+use Rattle.std.specs.Prelude.{ℕ, Bool, true, false, not, ◌&&◌, ◌||◌, eqb, nat_eq, nat_le, List, [], ◌∷◌, ◌++◌, Option, Some, None, length, map, bytes_eq, slice_get}
 use Rattle.clc_lexer.specs.declared.marks.Mark.{Mark}
 use Rattle.clc_lexer.specs.declared.marks.Mark.TheVariants as m
 use Rattle.q_lane.specs.declared.kinds.Scalar.{Scalar}
@@ -276,7 +276,7 @@ fits (s ∷ ss) (x ∷ xs) = violations x.place ((S7, not (matches (kind_of 0 s)
 -- a function that must not be called from another one, since it would be too high then
 abbrev pub is_highest : Option ℕ → Bool
 is_highest None = false
-is_highest (Some h) = eqb h 16
+is_highest (Some h) = nat_le 16 h
 
 -- S6, S8, S9, S7: a call of function f in the function after those that have a height
 abbrev pub signed_needs : ℕ → Home → ℕ → Option Signature → List Argument → List Fault
@@ -393,4 +393,4 @@ bare_needs (Some s) p = violations p ((S13, true) ∷ [])
 
 -- S11: an array has from 1 to 1,024 elements
 abbrev pub is_size : ℕ → Bool
-is_size n = not (eqb n 0) && Rattle.std.specs.Prelude.nat_le n 1024
+is_size n = not (eqb n 0) && nat_le n 1024

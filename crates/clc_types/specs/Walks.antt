@@ -1,5 +1,5 @@
 -- The walk over functions and a program.
-use Rattle.std.specs.Prelude.{ℕ, suc, ◌+◌, min, false, ◌&&◌, eqb, List, [], ◌∷◌, ◌++◌, Option, Some, None, is_some, length}
+use Rattle.std.specs.Prelude.{ℕ, suc, ◌+◌, false, ◌&&◌, eqb, List, [], ◌∷◌, ◌++◌, Option, Some, None, is_some, length}
 use Rattle.clc_tree.specs.declared.functions.Param.{Param}
 use Rattle.clc_tree.specs.declared.functions.ParamStep.{ParamStep}
 use Rattle.clc_tree.specs.declared.functions.Params.{Params}
@@ -63,7 +63,7 @@ unfoldable pub ended : TStmt → View → View
 ended body v = left (record {
   outer = v.outer;
   inner = v.inner;
-  home = record { functions = v.home.functions; heights = v.home.heights ++ min (suc (stmt_reach v.home.heights body)) 17 ∷ []; result = v.home.result };
+  home = record { functions = v.home.functions; heights = v.home.heights ++ number (suc (stmt_reach v.home.heights body)) ∷ []; result = v.home.result };
   vars = [];
   at = v.at;
 })

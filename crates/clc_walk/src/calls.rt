@@ -15,7 +15,7 @@ use q_lane::Scalar;
 use sqlite_items::Items;
 use std::alloc::Global;
 
-/// Functions of this height may not be called.
+/// Functions of this height and above it may not be called.
 const HIGHEST: u32 = 16;
 
 /// A built-in function's parameter, which takes a number of any type.
@@ -46,7 +46,10 @@ fn fits(params: &[Shape], args: &[Argument]) -> Option<Fault>
 fn is_highest(height: Option<u32>) -> bool
     ensures { result ≡ is_highest_of height }
 {
-    height == Some(HIGHEST)
+    match height {
+        None => false,
+        Some(height) => height >= HIGHEST,
+    }
 }
 
 fn height_at(home: &Home, function: u32) -> Option<u32>

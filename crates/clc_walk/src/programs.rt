@@ -1,6 +1,6 @@
 //! The walk over functions.
 
-ghost use Rattle.std.specs.Prelude.{◌≡◌, ◌<◌, ◌^◌, ◌+◌, suc, min, None, [], ◌∷◌, ◌++◌, length, map, drop, false};
+ghost use Rattle.std.specs.Prelude.{◌≡◌, ◌<◌, ◌^◌, ◌+◌, suc, None, [], ◌∷◌, ◌++◌, length, map, drop, false};
 ghost use Rattle.clc_types.specs.Scope.{seen, found};
 ghost use Rattle.clc_types.specs.Words.{name_of as name_of_token, is_kernel as is_kernel_lead};
 ghost use Rattle.clc_types.specs.Answers.{Walks, Gives, items_in};
@@ -24,9 +24,6 @@ use std::alloc::Global;
 
 /// The most parameters of a function.
 const MOST_PARAMS: usize = 16;
-
-/// Functions above height 16 aren't told apart.
-const MOST_HEIGHT: u32 = 17;
 
 fn param_shape(param: &Param) -> Shape
     ensures { result ≡ param_shape_of param.now }
@@ -160,13 +157,9 @@ fn count_params(params: &Option<Params>) -> u32
 
 /// The height of a function that reaches so high.
 fn above(reach: u32) -> u32
-    ensures { result ≡ min (suc reach) 17 }
+    ensures { result ≡ number_of (suc reach) }
 {
-    if reach < MOST_HEIGHT {
-        reach + 1
-    } else {
-        MOST_HEIGHT
-    }
+    reach.saturating_add(1)
 }
 
 fn signature(alloc: Global, f: &Function) -> Result<Signature, TypeFault>

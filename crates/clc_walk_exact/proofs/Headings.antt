@@ -27,7 +27,7 @@ use Rattle.clc_types.specs.declared.typed.Typed.{Typed}
 use Rattle.clc_types.specs.Judged.{Judged, Fine, Faulty, both, next, unless, violations, faults_of, Context, Part, IsLeast}
 use Rattle.clc_types.specs.Words.{name_of, one_if, is_kernel, type_tokens}
 use Rattle.clc_types.specs.Rules.{var_of}
-use Rattle.clc_types.specs.Heights.{stmt_reach}
+use Rattle.clc_types.specs.Heights.{greatest, stmt_reach}
 use Rattle.clc_types.specs.Names.{or_else, outermost, function_of, builtin_named, builtin_of}
 use Rattle.clc_types.specs.Scope.{Entries, found, known, look_in}
 use Rattle.clc_types.specs.Blocks.{Decl, Around, Piece, last_visible, nothing, quiet, past, ending, seq, made, declared, pointer_tokens, block}
@@ -75,6 +75,7 @@ pub record Ready (before : Before) (p : ℕ) (v : View) : Type 0 where
   pub functions : v.home.functions ≡ before.signatures
   pub heights : v.home.heights ≡ before.heights
   pub counts : length before.heights ≡ length before.names
+  pub low : greatest before.heights ≤ length before.heights
   pub few : length before.names ≤ p
   pub at : v.at ≡ p
 

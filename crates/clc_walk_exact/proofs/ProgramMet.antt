@@ -94,7 +94,7 @@ abbrev pub start : View
 start = record { outer = []; inner = []; home = record { functions = []; heights = []; result = Rattle.std.specs.Prelude.None }; vars = []; at = 0 }
 
 ready : Ready no_function 0 start
-ready = record { outer = refl; names = λ x. refl; functions = refl; heights = refl; counts = refl; few = omega arith; at = refl }
+ready = record { outer = refl; names = λ x. refl; functions = refl; heights = refl; counts = refl; low = omega arith; few = omega arith; at = refl }
 
 judged : (j : Judged (List TFunction)) (w : Stepped (List TFunction)) (r : Result (List TFunction) TypeFault) (new : State) → Met (next j (λ ys. Fine ([] ++ ys))) w (λ u. Unit {0}) → Stands w r new
     → Judges j r
