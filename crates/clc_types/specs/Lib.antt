@@ -1,4 +1,5 @@
 pub mod Judged
+pub mod TypeArithmetic
 pub mod Rules
 pub mod Words
 pub mod Typing

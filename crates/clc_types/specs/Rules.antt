@@ -4,7 +4,7 @@ use Rattle.std.specs.Prelude.{ℕ, Bool, true, false, not, ◌&&◌, ◌||◌, e
 use Rattle.clc_lexer.specs.declared.marks.Mark.{Mark}
 use Rattle.clc_lexer.specs.declared.marks.Mark.TheVariants as m
 use Rattle.q_lane.specs.declared.kinds.Scalar.{Scalar}
-use Rattle.q_lane.specs.declared.kinds.Scalar.TheVariants.{Char, Uchar, Short, Ushort, Int, Uint}
+use Rattle.q_lane.specs.declared.kinds.Scalar.TheVariants.{Int, Uint}
 use Rattle.clc_types.specs.declared.type_rule.TypeRule.TheVariants.{S3, S4, S5, S6, S7, S8, S9, S12, S13}
 use Rattle.clc_types.specs.declared.typed.Builtin.{Builtin}
 use Rattle.clc_types.specs.declared.typed.Builtin.TheVariants as b
@@ -27,6 +27,7 @@ use Rattle.clc_types.specs.declared.forms.Argument.{Argument}
 use Rattle.clc_types.specs.declared.forms.Signature.{Signature}
 use Rattle.clc_types.specs.declared.forms.Home.{Home}
 use Rattle.clc_types.specs.Judged.{violations}
+pub use Rattle.clc_types.specs.TypeArithmetic.{same_scalar, is_uint, int_or_uint, common, promoted, unsigned_of, Operator, Sum, Arithmetic, Shift, Truth, Comma, operator_of}
 
 -- ---- kinds of operands
 
@@ -53,15 +54,6 @@ is_nowhere _ = false
 abbrev pub is_constant : Place → Bool
 is_constant place.Constant = true
 is_constant _ = false
-
-abbrev pub same_scalar : Scalar → Scalar → Bool
-same_scalar Char Char = true
-same_scalar Uchar Uchar = true
-same_scalar Short Short = true
-same_scalar Ushort Ushort = true
-same_scalar Int Int = true
-same_scalar Uint Uint = true
-same_scalar _ _ = false
 
 abbrev pub same_space : Space → Space → Bool
 same_space space.Global space.Global = true
@@ -161,48 +153,10 @@ operands_needed o p a q b =
 abbrev pub operator_needs : Mark → ℕ → Sofar → ℕ → Form → List Fault
 operator_needs o p a q y = operands_needed o p a.kind q y.kind
 
--- the common type of two numbers, and the type of one alone
-abbrev pub is_uint : Scalar → Bool
-is_uint Uint = true
-is_uint _ = false
-
-abbrev pub int_or_uint : Bool → Scalar
-int_or_uint true = Uint
-int_or_uint false = Int
-
-abbrev pub common : Scalar → Scalar → Scalar
-common s t = int_or_uint (is_uint s || is_uint t)
-
-abbrev pub promoted : Scalar → Scalar
-promoted s = int_or_uint (is_uint s)
-
 -- the scalar of a number; of anything else a test has refused before
 abbrev pub scalar_of : Kind → Scalar
 scalar_of (k.Value s) = s
 scalar_of _ = Int
-
-pub data Operator : Type 0 where
-  Sum : Operator
-  Arithmetic : Operator
-  Shift : Operator
-  Truth : Operator
-  Comma : Operator
-
-abbrev pub operator_of : Mark → Operator
-operator_of m.Plus = Sum
-operator_of m.Minus = Sum
-operator_of m.ShiftLeft = Shift
-operator_of m.ShiftRight = Shift
-operator_of m.Less = Truth
-operator_of m.Greater = Truth
-operator_of m.LessEqual = Truth
-operator_of m.GreaterEqual = Truth
-operator_of m.EqualEqual = Truth
-operator_of m.BangEqual = Truth
-operator_of m.AndAnd = Truth
-operator_of m.OrOr = Truth
-operator_of m.Comma = Comma
-operator_of _ = Arithmetic
 
 abbrev pub sum_kind : Kind → Kind → Kind
 sum_kind (k.Pointer s c e) b = k.Pointer s c e
@@ -365,14 +319,6 @@ work_of b.GetGroupId xs = Uint
 work_of b.GetNumGroups xs = Uint
 work_of b.Mul24 xs = int_or_uint (some_uint xs)
 work_of _ xs = number_type xs
-
-abbrev pub unsigned_of : Scalar → Scalar
-unsigned_of Char = Uchar
-unsigned_of Uchar = Uchar
-unsigned_of Short = Ushort
-unsigned_of Ushort = Ushort
-unsigned_of Int = Uint
-unsigned_of Uint = Uint
 
 -- what it gives: abs and abs_diff the unsigned form of the type in which they work
 abbrev pub gives : Builtin → Scalar → Scalar
