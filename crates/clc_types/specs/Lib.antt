@@ -7,9 +7,10 @@ pub mod Heights
 pub mod Names
 pub mod Blocks
 pub mod Programs
-pub mod Scope
-pub mod Walk
-pub mod Answers
-pub mod Steps
-pub mod Walks
 pub mod WellTyped
+-- internal: what the code that walks over a program computes step by step. No statement of `check` names these
+pub mod InternalScope
+pub mod InternalWalk
+pub mod InternalAnswers
+pub mod InternalSteps
+pub mod InternalWalks

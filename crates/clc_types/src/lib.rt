@@ -1,4 +1,6 @@
 //! Typed trees, what the typing rules of OpenCL C look at as this project takes them, and the rules as definitions.
+//! In `specs/` what is named `Internal..` says what the code of `clc_walk` computes step by step: it is no part of the rules, and no promise of
+//! `check` names it.
 #![tactic(auto)]
 
 mod forms;

@@ -8,11 +8,11 @@ use Rattle.clc_types.specs.declared.scope.State.{State}
 use Rattle.clc_types.specs.Judged.{violations}
 use Rattle.clc_types.specs.Words.{name_of, is_kernel}
 use Rattle.clc_types.specs.Names.{or_else, builtin_named, builtin_of}
-use Rattle.clc_types.specs.Scope.{found, known}
+use Rattle.clc_types.specs.InternalScope.{found, known}
 use Rattle.clc_types.specs.Programs.{result_of}
-use Rattle.clc_types.specs.Walk.{Right, guarded, bump}
-use Rattle.clc_types.specs.Steps.{View, reach, knows_in, Stands, view_of}
-use Rattle.clc_types.specs.Walks.{heading_in}
+use Rattle.clc_types.specs.InternalWalk.{Right, guarded, bump}
+use Rattle.clc_types.specs.InternalSteps.{View, reach, knows_in, Stands, view_of}
+use Rattle.clc_types.specs.InternalWalks.{heading_in}
 use Rattle.clc_types.proofs.Scopes.{known_last}
 
 none_first : (a b c : Option Named) → or_else (or_else a b) c ≡ None → a ≡ None

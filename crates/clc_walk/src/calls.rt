@@ -3,8 +3,8 @@
 ghost use Rattle.std.specs.Prelude.{◌≡◌, length, slice_get};
 ghost use Rattle.clc_types.specs.Rules.{call_needs as call_needs_of, call_kind as call_kind_of, fits as fits_of, is_highest as is_highest_of, signed_needs, builtin_needs as builtin_needs_of, builtin_params as builtin_params_of, all_are as all_are_of, some_uint as some_uint_of, number_type as number_type_of, work_of as work_of_builtin, unsigned_of as unsigned_of_scalar, gives as gives_of};
 ghost use Rattle.clc_types.specs.Typing.{exprs as exprs_of};
-ghost use Rattle.clc_types.specs.Answers.{Walks, Gives, first as first_of};
-ghost use Rattle.clc_types.specs.Walk.{by_callee, call_end as call_end_of};
+ghost use Rattle.clc_types.specs.InternalAnswers.{Walks, Gives, first as first_of};
+ghost use Rattle.clc_types.specs.InternalWalk.{by_callee, call_end as call_end_of};
 ghost use Rattle.clc_types.specs.declared.forms.Named.TheVariants as named;
 
 use crate::expressions::{broken, memory, plain, skip};
@@ -262,7 +262,7 @@ fn builtin_end(
 }
 
 /// A call, once its arguments are there.
-#[tactic(auto, unfolding(clc_types::specs::Walk::call_end))]
+#[tactic(auto, unfolding(clc_types::specs::InternalWalk::call_end))]
 pub fn call_end(
     alloc: Global,
     at: &mut u32,

@@ -1,7 +1,7 @@
 //! The typing rules, by the types of operands and their places. Each test gives its first violated rule.
 
 ghost use Rattle.std.specs.Prelude.{◌≡◌, ◌++◌, Some};
-ghost use Rattle.clc_types.specs.Answers.{first as first_of};
+ghost use Rattle.clc_types.specs.InternalAnswers.{first as first_of};
 ghost use Rattle.clc_types.specs.Rules.{is_scalar as is_scalar_kind, matches as matches_of, kind_of as kind_of_shape, place_if as place_if_fixed, place_of as place_of_shape, is_locked as is_locked_space, var_of as var_of_shape, ty_of as ty_of_kind, scalar_needed as scalar_needed_of, indexed_needed as indexed_needed_of, pointer_needed as pointer_needed_of, no_array as no_array_of, fit_needed as fit_needed_of, step_needs as step_needs_of, index_needs as index_needs_of, operands_needed as operands_needed_of, operator_needs as operator_needs_of, common as common_of, promoted as promoted_of, scalar_of as scalar_of_kind, result_of as result_of_operator, operator_of as operator_of_mark, prefix_kind as prefix_kind_of, element_kind as element_kind_of, element_place as element_place_of, conditional_needs as conditional_needs_of, assigned_needed as assigned_needed_of, value_needed as value_needed_of, takes_pointer as takes_pointer_mark, assign_needs as assign_needs_of, return_needs as return_needs_of, bare_needs as bare_needs_of, is_size as is_size_number, sum_kind as sum_kind_of};
 
 use clc_lexer::Mark;

@@ -3,7 +3,7 @@ use Rattle.std.proofs.Common.{◌≡◌, ℕ, suc, ◌+◌, ◌<◌, ◌≤◌, 
 use Rattle.clc_types.specs.declared.type_rule.TypeRule.{TypeRule}
 use Rattle.clc_types.specs.declared.forms.Fault.{Fault}
 use Rattle.clc_types.specs.Judged.{Judged, Fine, Faulty, both, next, unless, violations, faults_of, rank, Before, Among, IsLeast}
-use Rattle.clc_types.specs.Walk.{Walked, Right, Wrong, after, guarded}
+use Rattle.clc_types.specs.InternalWalk.{Walked, Right, Wrong, after, guarded}
 
 pub record Inside (lo hi : ℕ) (fs : List Fault) : Type 0 where
   pub all : (g : Fault) → Among g fs → (lo ≤ g.token) × (g.token < hi)

@@ -17,8 +17,8 @@ use Rattle.clc_types.specs.Judged.{Judged, Fine, Faulty, both, next, unless, fau
 use Rattle.clc_types.specs.Words.{name_of, mark_of, type_tokens}
 use Rattle.clc_types.specs.Rules.{scalar_needed, pointer_needed, step_needs, index_needs, operator_needs, conditional_needs, assign_needs, call_needs, builtin_needs}
 use Rattle.clc_types.specs.Typing.{Operand, Series, Suffix, At, Stepped, Choices, Couple, couple, number_form, paren_form, index_form, deref_form, post_form, step_form, prefix_form, cast_form, first_of_chain, further, chain_form, conditional_form, assign_form, argument, call_form, builtin_form, name_at, callee_at, called, start, operators, chain, after_comma, series, further_arguments, first_argument, no_arguments, arguments, suffixes, prefixed, conditional}
-use Rattle.clc_types.specs.Scope.{Known}
-use Rattle.clc_types.specs.Walk.{Walked, Right, Wrong, Walk, after, guarded, bump, paren_end, index_end, post_end, step_end, prefix_end, by_mark, cast_end, chain_start, operator_end, chain_end, conditional_end, assign_end, by_callee, call_end, walk_name, walk_callee, WalkOperand, WalkSeries, WalkSuffix, At as WalkAt, Stepped as WalkStepped, WalkChoices, walk_operator, walk_operators, comma, walk_rest, walk_series, walk_argument, walk_further, walk_arguments, walk_suffix, walk_suffixes, walk_conditional}
+use Rattle.clc_types.specs.InternalScope.{Known}
+use Rattle.clc_types.specs.InternalWalk.{Walked, Right, Wrong, Walk, after, guarded, bump, paren_end, index_end, post_end, step_end, prefix_end, by_mark, cast_end, chain_start, operator_end, chain_end, conditional_end, assign_end, by_callee, call_end, walk_name, walk_callee, WalkOperand, WalkSeries, WalkSuffix, At as WalkAt, Stepped as WalkStepped, WalkChoices, walk_operator, walk_operators, comma, walk_rest, walk_series, walk_argument, walk_further, walk_arguments, walk_suffix, walk_suffixes, walk_conditional}
 use Rattle.clc_walk_exact.proofs.Least.{Inside, Same, inside_none, wider, guard_same, after_assoc, next_same, two_same, inside_unless, inside_next, inside_both, both_fine, first_least, next_fine}
 use Rattle.clc_walk_exact.proofs.Needs.{Sound, sound_none, sound_wider, scalar_sound, pointer_sound, step_sound, index_sound, operator_sound, conditional_sound, assign_sound, call_sound, builtin_sound, Placed, placed_push}
 use Rattle.clc_walk_exact.proofs.Agree.{bump_is, same_at, context, Agreed, part, Fair, Good, good_as, right_end, one_good, two_good}

@@ -15,11 +15,11 @@ use Rattle.clc_types.specs.Judged.{Judged, Fine, Faulty, both, next, unless, vio
 use Rattle.clc_types.specs.Words.{name_of}
 use Rattle.clc_types.specs.Rules.{var_of}
 use Rattle.clc_types.specs.Names.{or_else, outermost, builtin_named, builtin_of}
-use Rattle.clc_types.specs.Scope.{Entries, Known, found, known, look_in}
+use Rattle.clc_types.specs.InternalScope.{Entries, Known, found, known, look_in}
 use Rattle.clc_types.specs.Blocks.{Decl, Around, Piece, is_visible, last_visible, is_again, earlier, nothing, quiet, past, ending, seq, made, maybe, listed, opened, looping, declared}
 use Rattle.clc_types.specs.Programs.{in_force}
-use Rattle.clc_types.specs.Walk.{Walked, Right, Wrong, Walk, guarded, bump}
-use Rattle.clc_types.specs.Steps.{View, Stepped, Goes, Stops, and_then, reach, PieceWalk, knows_in, number, skipped, entered, left, front, last_of, with_var, declare_in, declared_in, nothing as walk_nothing, past as walk_past, ending as walk_ending, seq as walk_seq, made as walk_made, maybe as walk_maybe, listed as walk_listed, opened as walk_opened, looping as walk_looping, declared as walk_declared}
+use Rattle.clc_types.specs.InternalWalk.{Walked, Right, Wrong, Walk, guarded, bump}
+use Rattle.clc_types.specs.InternalSteps.{View, Stepped, Goes, Stops, and_then, reach, PieceWalk, knows_in, number, skipped, entered, left, front, last_of, with_var, declare_in, declared_in, nothing as walk_nothing, past as walk_past, ending as walk_ending, seq as walk_seq, made as walk_made, maybe as walk_maybe, listed as walk_listed, opened as walk_opened, looping as walk_looping, declared as walk_declared}
 use Rattle.clc_types.proofs.Scopes.{known_last, or_none, or_assoc, front_is, last_is}
 use Rattle.clc_walk_exact.proofs.Least.{Inside, Same, inside_none, wider, inside_unless, inside_next, inside_both, first_least, least_left, inside_violations}
 use Rattle.clc_walk_exact.proofs.Needs.{sound_at}

@@ -1,4 +1,4 @@
--- The walk over statements, with the open blocks and the variables so far.
+-- Internal: what the code does, and no part of the rules. The walk over statements, with the open blocks and the variables so far.
 use Rattle.std.specs.Prelude.{◌≡◌, ℕ, ◌+◌, min, Bool, true, false, not, List, [], ◌∷◌, ◌++◌, Option, Some, None, is_some, length, map, Result, Ok, Err}
 use Rattle.clc_lexer.specs.declared.token.Token.{Token}
 use Rattle.clc_tree.specs.declared.expressions.Expr.{Expr}
@@ -41,8 +41,8 @@ use Rattle.clc_types.specs.Judged.{violations}
 use Rattle.clc_types.specs.Words.{name_of, value_of, type_of, type_tokens, one_if}
 use Rattle.clc_types.specs.Rules.{var_of, kind_of, scalar_needed, no_array, fit_needed, return_needs, bare_needs, is_size}
 use Rattle.clc_types.specs.Blocks.{pointer_shape, pointer_tokens, evaluated}
-use Rattle.clc_types.specs.Scope.{Entries, Known, found, look_in, seen}
-use Rattle.clc_types.specs.Walk.{Walked, Right, Wrong, after, guarded, bump, walk_expr, walk_assign}
+use Rattle.clc_types.specs.InternalScope.{Entries, Known, found, look_in, seen}
+use Rattle.clc_types.specs.InternalWalk.{Walked, Right, Wrong, after, guarded, bump, walk_expr, walk_assign}
 
 -- what the walk carries: the blocks outside the innermost one, that one, the function, its variables so far, and the next token's number
 pub record View : Type 0 where

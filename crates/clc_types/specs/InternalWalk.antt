@@ -1,4 +1,4 @@
--- The walk over an expression: it stops at the first fault, and counts the tokens on its way.
+-- Internal: what the code does, and no part of the rules. The walk over an expression: it stops at the first fault, and counts the tokens on its way.
 use Rattle.std.specs.Prelude.{ℕ, ◌+◌, min, List, [], ◌∷◌, ◌++◌, Option, Some, None, slice_get, map}
 use Rattle.clc_lexer.specs.declared.token.Token.{Token}
 use Rattle.clc_lexer.specs.declared.marks.Mark.{Mark}
@@ -30,7 +30,7 @@ use Rattle.clc_types.specs.declared.forms.Home.{Home}
 use Rattle.clc_types.specs.Words.{name_of, mark_of, type_tokens}
 use Rattle.clc_types.specs.Rules.{scalar_needed, pointer_needed, step_needs, index_needs, operator_needs, conditional_needs, assign_needs, call_needs, builtin_needs}
 use Rattle.clc_types.specs.Typing.{number_form, variable_form, paren_form, index_form, deref_form, post_form, step_form, prefix_form, cast_form, first_of_chain, further, chain_form, conditional_form, assign_form, argument, call_form, builtin_form}
-use Rattle.clc_types.specs.Scope.{Known}
+use Rattle.clc_types.specs.InternalScope.{Known}
 
 -- what was found, with the number of the next token
 pub data Walked (A : Type 0) : Type 0 where

@@ -1,4 +1,4 @@
--- The walk over functions and a program.
+-- Internal: what the code does, and no part of the rules. The walk over functions and a program.
 use Rattle.std.specs.Prelude.{ℕ, suc, ◌+◌, false, ◌&&◌, eqb, List, [], ◌∷◌, ◌++◌, Option, Some, None, is_some, length}
 use Rattle.clc_tree.specs.declared.functions.Param.{Param}
 use Rattle.clc_tree.specs.declared.functions.ParamStep.{ParamStep}
@@ -14,8 +14,8 @@ use Rattle.clc_types.specs.Judged.{violations}
 use Rattle.clc_types.specs.Words.{name_of, one_if, is_kernel}
 use Rattle.clc_types.specs.Heights.{stmt_reach}
 use Rattle.clc_types.specs.Programs.{param_shape, param_tokens, param_name, shapes_of, result_of, returns_tokens, signature}
-use Rattle.clc_types.specs.Walk.{Walked, Right, guarded, bump}
-use Rattle.clc_types.specs.Steps.{View, Stepped, Goes, and_then, reach, number, skipped, left, declared_in, knows_in, walk_block}
+use Rattle.clc_types.specs.InternalWalk.{Walked, Right, guarded, bump}
+use Rattle.clc_types.specs.InternalSteps.{View, Stepped, Goes, and_then, reach, number, skipped, left, declared_in, knows_in, walk_block}
 
 unfoldable pub counted_in : ℕ → ℕ → ℕ → Walked (Unit {0})
 counted_in n k p = guarded (violations p ((S14, eqb n 16) ∷ [])) (Right tt (bump p k))
