@@ -13,6 +13,7 @@ use Rattle.clc_tree.specs.Flat.{joined, optional_tokens, returns_tokens, params_
 use Rattle.clc_types.specs.declared.forms.Fault.{Fault}
 use Rattle.clc_types.specs.declared.typed.TFunction.{TFunction}
 use Rattle.clc_check.specs.Checked.{functions_in}
+use Rattle.clc_types.specs.declared.type_rule.TypeRule.{TypeRule}
 use Rattle.clc_types.specs.declared.typed.TypeFault.TheVariants.{Rule}
 use Rattle.clc_types.specs.Judged.{Judged, Fine, Faulty, both, next, IsLeast}
 use Rattle.clc_types.specs.Programs.{program, kernel_of, Judges, Before, function_at, functions_at, function_piece, with_function, no_function}
@@ -96,11 +97,6 @@ place_past source [] k past = refl
 place_past source (x ∷ ts) zero past = absurd (omega (arith, past))
 place_past source (x ∷ ts) (suc k) past = place_past source ts k (omega (arith, past))
 
-pub rule_past : (rules : List SourceRule) (k : ℕ) (last : SourceRule) → length rules ≤ k → last ≡ get_or rules k last
-rule_past [] k last past = refl
-rule_past (rule ∷ rules) zero last past = absurd (omega (arith, past))
-rule_past (rule ∷ rules) (suc k) last past = rule_past rules k last (omega (arith, past))
-
 -- ---- what was checked
 
 pub checked_fine : (j : Judged (List TFunction)) (functions : List TFunction) → Judges j (Ok functions) → j ≡ Fine functions
@@ -110,7 +106,7 @@ checked_fine (Faulty f fs) functions h = absurd h
 abbrev pub HasLeast : Judged (List TFunction) → Fault → Type 0
 HasLeast j first = (one : Fault) × (more : List Fault) × (j ≡ Faulty one more) × IsLeast first (one ∷ more)
 
-pub checked_faulty : (j : Judged (List TFunction)) (rule token : ℕ) → Judges j (functions_in (Err (Rule rule token))) → HasLeast j (record { token = token; rule = rule })
+pub checked_faulty : (j : Judged (List TFunction)) (rule : TypeRule) (token : ℕ) → Judges j (functions_in (Err (Rule rule token))) → HasLeast j (record { token = token; rule = rule })
 checked_faulty (Fine a) rule token h = absurd h
 checked_faulty (Faulty f fs) rule token h = (f, fs, refl, h)
 

@@ -14,8 +14,10 @@ use Rattle.clc_grammar_laws.proofs.FlatIs.{flat_tree}
 use Rattle.clc_parser.specs.SourceTree.{IsText, FaultAt}
 use Rattle.clc_parser.proofs.OneAnswer.{one_answer}
 use Rattle.clc_types.specs.declared.forms.Fault.{Fault}
+use Rattle.clc_types.specs.declared.type_rule.TypeRule.{TypeRule}
+use Rattle.clc_types.specs.declared.type_rule.TypeRule.TheVariants.{S1, S2, S3, S4, S5, S6, S7, S8, S9, S10, S11, S12, S13, S14}
 use Rattle.clc_types.specs.declared.typed.TFunction.{TFunction}
-use Rattle.clc_types.specs.Judged.{Judged, Fine, Faulty, faults_of, Before, IsLeast}
+use Rattle.clc_types.specs.Judged.{Judged, Fine, Faulty, faults_of, rank, Before, IsLeast}
 use Rattle.clc_types.specs.Programs.{program, kernel_of}
 use Rattle.promise.specs.declared.refusal.SourceRule.{SourceRule}
 use Rattle.promise.specs.declared.refusal.Refusal.{Refusal}
@@ -61,6 +63,39 @@ pub same_function : (source kernel : List ℕ) (t u : List TFunction) (a b : TFu
 same_function source kernel t u a b h g w v =
     same_wanted u kernel a b (subst (λ x. IsWanted x kernel a) (same_typed source t u h g) w) v
 
+-- a number is that of one rule
+numbered : ℕ → TypeRule
+numbered 1 = S1
+numbered 2 = S2
+numbered 3 = S3
+numbered 4 = S4
+numbered 5 = S5
+numbered 6 = S6
+numbered 7 = S7
+numbered 8 = S8
+numbered 9 = S9
+numbered 10 = S10
+numbered 11 = S11
+numbered 12 = S12
+numbered 13 = S13
+numbered _ = S14
+
+its_number : (r : TypeRule) → numbered (rank r) ≡ r
+its_number S1 = refl
+its_number S2 = refl
+its_number S3 = refl
+its_number S4 = refl
+its_number S5 = refl
+its_number S6 = refl
+its_number S7 = refl
+its_number S8 = refl
+its_number S9 = refl
+its_number S10 = refl
+its_number S11 = refl
+its_number S12 = refl
+its_number S13 = refl
+its_number S14 = refl
+
 -- two least faults of a list are one
 least_once : (fs gs : List Fault) (a b : Fault) → fs ≡ gs → IsLeast a fs → IsLeast b gs → a ≡ b
 least_once fs gs a b same h g =
@@ -73,7 +108,8 @@ least_once fs gs a b same h g =
     meet a b (inr x) (inl y) = absurd (omega (arith, x.0, y))
     meet a b (inr x) (inr y) =
         let token : a.token ≡ b.token = x.0 in
-        let rule : a.rule ≡ b.rule = omega (arith, x.1, y.1) in
+        let same : rank a.rule ≡ rank b.rule = omega (arith, x.1, y.1) in
+        let rule : a.rule ≡ b.rule = sym (its_number a.rule) ∙ ap numbered same ∙ its_number b.rule in
         ap (λ t. record { token = t; rule = a.rule }) token ∙ ap (λ r. record { token = b.token; rule = r }) rule
 
 -- ---- no source has two kinds of violations, nor one where it goes on

@@ -1,6 +1,6 @@
 -- Which sources have a kernel of a name, and the rule that another one violates first. OpenCL C 1.2, section 6: the tokens, the grammar and the typing
 -- rules are those of the front end's crates. The classes of rules and their order are this project's own.
-use Rattle.std.specs.Prelude.{◌≡◌, ℕ, zero, suc, ◌-◌, ◌<◌, List, [], ◌∷◌, length, get_or, slice_get, Some, None}
+use Rattle.std.specs.Prelude.{◌≡◌, ℕ, zero, suc, ◌<◌, List, [], ◌∷◌, length, slice_get, Some, None}
 use Rattle.clc_lexer.specs.declared.token.Token.{Token}
 use Rattle.clc_lexer.specs.declared.token.LexRule.{LexRule}
 use Rattle.clc_lexer.specs.declared.token.LexRule.TheVariants as lex
@@ -9,6 +9,8 @@ use Rattle.clc_reading.specs.Reading.{Reason, Wrong, Deep}
 use Rattle.clc_tree.specs.declared.functions.Tree.{Tree}
 use Rattle.clc_parser.specs.SourceTree.{IsText, FaultAt}
 use Rattle.clc_types.specs.declared.forms.Fault.{Fault}
+use Rattle.clc_types.specs.declared.type_rule.TypeRule.{TypeRule}
+use Rattle.clc_types.specs.declared.type_rule.TypeRule.TheVariants as t
 use Rattle.clc_types.specs.declared.typed.TFunction.{TFunction}
 use Rattle.clc_types.specs.Judged.{Fine, Faulty, IsLeast}
 use Rattle.clc_types.specs.Programs.{program, kernel_of}
@@ -28,12 +30,21 @@ abbrev pub grammar_rule : Reason → SourceRule
 grammar_rule Wrong = G1
 grammar_rule Deep = G2
 
--- the typing rules in the order of their numbers, of which the first is 1; no rule has the number 0 or one above 14
-abbrev pub typing_rules : List SourceRule
-typing_rules = S1 ∷ S2 ∷ S3 ∷ S4 ∷ S5 ∷ S6 ∷ S7 ∷ S8 ∷ S9 ∷ S10 ∷ S11 ∷ S12 ∷ S13 ∷ S14 ∷ []
-
-abbrev pub typing_rule : ℕ → SourceRule
-typing_rule number = get_or typing_rules (number - 1) S14
+abbrev pub typing_rule : TypeRule → SourceRule
+typing_rule t.S1 = S1
+typing_rule t.S2 = S2
+typing_rule t.S3 = S3
+typing_rule t.S4 = S4
+typing_rule t.S5 = S5
+typing_rule t.S6 = S6
+typing_rule t.S7 = S7
+typing_rule t.S8 = S8
+typing_rule t.S9 = S9
+typing_rule t.S10 = S10
+typing_rule t.S11 = S11
+typing_rule t.S12 = S12
+typing_rule t.S13 = S13
+typing_rule t.S14 = S14
 
 -- ---- sources and their programs
 

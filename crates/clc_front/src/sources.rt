@@ -5,41 +5,36 @@ ghost use Rattle.clc_tree.specs.Flat.{flat_of};
 ghost use Rattle.clc_types.specs.Judged.{Fine};
 ghost use Rattle.clc_types.specs.Programs.{program};
 ghost use Rattle.promise.specs.declared.refusal.SourceRule.{SourceRule as AnyRule};
-ghost use Rattle.clc_front.specs.Profile.{IsSpelled, IsProgram, IsTyped, IsFirstViolation, lexical_rule as lexical_rule_of, typing_rule as typing_rule_of, place_of as place_of_token};
+ghost use Rattle.clc_front.specs.Profile.{IsSpelled, IsProgram, IsTyped, IsFirstViolation};
+ghost use Rattle.clc_front.specs.Profile.{lexical_rule as lexical_rule_of, typing_rule as typing_rule_of};
+ghost use Rattle.clc_front.specs.Profile.{place_of as place_of_token};
 
 use clc_check::check;
 use clc_lexer::{LexFault, LexRule, Token, lex};
 use clc_parser::{GramFault, discard, parse};
 use clc_tree::Tree;
-use clc_types::{TypeFault, Typed};
+use clc_types::{TypeFault, TypeRule, Typed};
 use promise::{Refusal, SourceRule};
 use std::alloc::Global;
 
-/// The typing rules, of which the first has the number 1.
-const TYPING_RULES: [SourceRule; 14] = [
-    SourceRule::S1,
-    SourceRule::S2,
-    SourceRule::S3,
-    SourceRule::S4,
-    SourceRule::S5,
-    SourceRule::S6,
-    SourceRule::S7,
-    SourceRule::S8,
-    SourceRule::S9,
-    SourceRule::S10,
-    SourceRule::S11,
-    SourceRule::S12,
-    SourceRule::S13,
-    SourceRule::S14,
-];
-
-fn typing_rule(number: u8) -> SourceRule
-    ensures { result ≡ typing_rule_of number }
+fn typing_rule(rule: TypeRule) -> SourceRule
+    ensures { result ≡ typing_rule_of rule }
 {
-    let index = usize::from(number).saturating_sub(1);
-    match TYPING_RULES.get(index) {
-        Some(rule) => *rule,
-        None => SourceRule::S14,
+    match rule {
+        TypeRule::S1 => SourceRule::S1,
+        TypeRule::S2 => SourceRule::S2,
+        TypeRule::S3 => SourceRule::S3,
+        TypeRule::S4 => SourceRule::S4,
+        TypeRule::S5 => SourceRule::S5,
+        TypeRule::S6 => SourceRule::S6,
+        TypeRule::S7 => SourceRule::S7,
+        TypeRule::S8 => SourceRule::S8,
+        TypeRule::S9 => SourceRule::S9,
+        TypeRule::S10 => SourceRule::S10,
+        TypeRule::S11 => SourceRule::S11,
+        TypeRule::S12 => SourceRule::S12,
+        TypeRule::S13 => SourceRule::S13,
+        TypeRule::S14 => SourceRule::S14,
     }
 }
 

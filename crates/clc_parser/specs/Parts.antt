@@ -1,4 +1,4 @@
--- The readers of parts of rules that the code reads by themselves.
+-- Internal: what the code does, and no part of the grammar. The readers of parts of rules that the code reads by themselves.
 use Rattle.std.specs.Prelude.{ℕ, suc, Bool, true, false, Option, Some, None}
 use Rattle.clc_reading.specs.Reading.{Reader, ◌>>=◌, pure, one, pick}
 use Rattle.clc_lexer.specs.declared.token.Token.{Token}

@@ -1,4 +1,4 @@
--- What a function that reads ensures: that it gives what a reader of token lists gives, and goes on where the reader goes on.
+-- Internal: what the code does, and no part of the grammar. What a function that reads ensures: that it gives what a reader of token lists gives, and goes on where the reader goes on.
 use Rattle.std.specs.Prelude.{◌≡◌, List, Some, None, Result, Ok, Err}
 use Rattle.clc_reading.specs.Reading.{Outcome, Got, Stops, Wrong, Deep}
 use Rattle.clc_lexer.specs.declared.token.Token.{Token}

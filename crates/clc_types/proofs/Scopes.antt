@@ -3,8 +3,8 @@ use Rattle.std.proofs.Common.{◌≡◌, ℕ, List, [], ◌∷◌, ◌++◌, Opt
 use Rattle.clc_types.specs.declared.forms.Named.{Named}
 use Rattle.clc_types.specs.Names.{or_else}
 use Rattle.std.specs.Prelude.{map}
-use Rattle.clc_types.specs.Scope.{Entries, found, known}
-use Rattle.clc_types.specs.Steps.{front, last_of}
+use Rattle.clc_types.specs.InternalScope.{Entries, found, known}
+use Rattle.clc_types.specs.InternalSteps.{front, last_of}
 
 pub or_assoc : (a b c : Option Named) → or_else (or_else a b) c ≡ or_else a (or_else b c)
 or_assoc (Some x) b c = refl

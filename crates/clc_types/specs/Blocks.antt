@@ -17,6 +17,7 @@ use Rattle.clc_tree.specs.declared.statements.BlockPart.TheOpen as o
 use Rattle.clc_tree.specs.declared.statements.BlockPart.TheOpen.{BlockPart-F, Stmt-F, Block-F, Do-F, Else-F, For-F, If-F, While-F}
 use Rattle.clc_tree.specs.declared.statements.BlockPart.TheFolds.{fold-Block}
 use Rattle.q_lane.specs.declared.kinds.Scalar.{Scalar}
+use Rattle.clc_types.specs.declared.type_rule.TypeRule.TheVariants.{S2, S10, S11}
 use Rattle.clc_types.specs.declared.typed.TExpr.{TExpr}
 use Rattle.clc_types.specs.declared.typed.TStmt.{TStmt}
 use Rattle.clc_types.specs.declared.typed.TStmt.TheVariants as st
@@ -132,12 +133,12 @@ abbrev pub declared : Shape → Token → Piece ℕ
 declared s t = record {
   tokens = 1;
   decls = λ from upto p. record { name = name_of t; place = p; from = from; upto = upto; shape = s } ∷ [];
-  at = λ c l from p. unless (violations p ((2, is_again c.all from p (name_of t)) ∷ [])) (earlier c.all p);
+  at = λ c l from p. unless (violations p ((S2, is_again c.all from p (name_of t)) ∷ [])) (earlier c.all p);
 }
 
 -- `[`, a number and `]`: S11 at the number
 abbrev pub size : Token → Part (Unit {0})
-size t = record { tokens = 3; at = λ c p. unless (violations (p + 1) ((11, not (is_size (value_of t))) ∷ [])) tt }
+size t = record { tokens = 3; at = λ c p. unless (violations (p + 1) ((S11, not (is_size (value_of t))) ∷ [])) tt }
 
 abbrev pub init : Kind → Option Init → Piece (Option TExpr)
 init s None = nothing None
@@ -191,7 +192,7 @@ returned (Some e) = quiet (record {
 
 -- S10
 abbrev pub jump : TStmt → Piece TStmt
-jump s = record { tokens = 2; decls = λ from upto p. []; at = λ c l from p. unless (violations p ((10, not l) ∷ [])) s }
+jump s = record { tokens = 2; decls = λ from upto p. []; at = λ c l from p. unless (violations p ((S10, not l) ∷ [])) s }
 
 abbrev pub evaluated : Option TExpr → List TStmt
 evaluated None = []

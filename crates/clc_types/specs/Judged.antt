@@ -1,5 +1,7 @@
 -- A part of a program has faults, or else it has a typed form.
 use Rattle.std.specs.Prelude.{◌≡◌, ℕ, ◌+◌, ◌<◌, ◌≤◌, Bool, true, false, List, [], ◌∷◌, ◌++◌, ◌⊎◌, Option}
+use Rattle.clc_types.specs.declared.type_rule.TypeRule.{TypeRule}
+use Rattle.clc_types.specs.declared.type_rule.TypeRule.TheVariants.{S1, S2, S3, S4, S5, S6, S7, S8, S9, S10, S11, S12, S13, S14}
 use Rattle.clc_types.specs.declared.forms.Fault.{Fault}
 use Rattle.clc_types.specs.declared.forms.Named.{Named}
 use Rattle.clc_types.specs.declared.forms.Home.{Home}
@@ -26,7 +28,7 @@ unless [] a = Fine a
 unless (f ∷ fs) a = Faulty f fs
 
 -- the rules of a list that are violated at a token, each with whether it is
-abbrev pub violations : (token : ℕ) → List (ℕ × Bool) → List Fault
+abbrev pub violations : (token : ℕ) → List (TypeRule × Bool) → List Fault
 violations p [] = []
 violations p ((rule, true) ∷ more) = record { token = p; rule = rule } ∷ violations p more
 violations p ((rule, false) ∷ more) = violations p more
@@ -35,9 +37,26 @@ abbrev pub faults_of : {A : Type 0} → Judged A → List Fault
 faults_of (Fine a) = []
 faults_of (Faulty f fs) = f ∷ fs
 
--- the order of faults: by the token, then by the rule
+-- the number of a rule
+abbrev pub rank : TypeRule → ℕ
+rank S1 = 1
+rank S2 = 2
+rank S3 = 3
+rank S4 = 4
+rank S5 = 5
+rank S6 = 6
+rank S7 = 7
+rank S8 = 8
+rank S9 = 9
+rank S10 = 10
+rank S11 = 11
+rank S12 = 12
+rank S13 = 13
+rank S14 = 14
+
+-- the order of faults: by the token, then by the number of the rule
 abbrev pub Before : Fault → Fault → Type 0
-Before f g = (f.token < g.token) ⊎ ((f.token ≡ g.token) × (f.rule ≤ g.rule))
+Before f g = (f.token < g.token) ⊎ ((f.token ≡ g.token) × (rank f.rule ≤ rank g.rule))
 
 abbrev pub Among : Fault → List Fault → Type 0
 Among f [] = ⊥

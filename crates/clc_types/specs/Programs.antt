@@ -1,5 +1,5 @@
 -- The faults of functions and of a whole program, and its typed tree (OpenCL C 1.2, 6.7 and 6.9; C99, 6.2.1 and 6.9).
-use Rattle.std.specs.Prelude.{◌≡◌, ℕ, suc, ◌+◌, min, false, ◌&&◌, eqb, bytes_eq, if◌then◌else◌, List, [], ◌∷◌, ◌++◌, Option, Some, None, is_some, length, map, Result, Ok, Err}
+use Rattle.std.specs.Prelude.{◌≡◌, ℕ, suc, ◌+◌, false, ◌&&◌, eqb, bytes_eq, if◌then◌else◌, List, [], ◌∷◌, ◌++◌, Option, Some, None, is_some, length, map, Result, Ok, Err}
 use Rattle.clc_lexer.specs.declared.token.Token.{Token}
 use Rattle.clc_tree.specs.declared.functions.Param.{Param}
 use Rattle.clc_tree.specs.declared.functions.Param.TheVariants as param
@@ -11,6 +11,7 @@ use Rattle.clc_tree.specs.declared.functions.Returns.TheVariants as returns
 use Rattle.clc_tree.specs.declared.functions.Function.{Function}
 use Rattle.clc_tree.specs.declared.functions.Tree.{Tree}
 use Rattle.q_lane.specs.declared.kinds.Scalar.{Scalar}
+use Rattle.clc_types.specs.declared.type_rule.TypeRule.TheVariants.{S2, S8, S14}
 use Rattle.clc_types.specs.declared.typed.TStmt.{TStmt}
 use Rattle.clc_types.specs.declared.typed.TStmt.TheVariants as st
 use Rattle.clc_types.specs.declared.typed.TFunction.{TFunction}
@@ -49,7 +50,7 @@ param_name (param.Pointer x t) = t
 
 -- S14: a 17th parameter. n parameters stand before it
 abbrev pub counted : ℕ → ℕ → Part (Unit {0})
-counted n k = record { tokens = k; at = λ c p. unless (violations p ((14, eqb n 16) ∷ [])) tt }
+counted n k = record { tokens = k; at = λ c p. unless (violations p ((S14, eqb n 16) ∷ [])) tt }
 
 abbrev pub param_piece : ℕ → Param → Piece (Unit {0})
 param_piece n x = made (λ y. tt) (seq (quiet (counted n (param_tokens x))) (declared (param_shape x) (param_name x)))
@@ -80,7 +81,7 @@ returns_tokens (returns.Value s) = type_tokens s
 abbrev pub heading : List (List ℕ) → Function → Part (Unit {0})
 heading fs f = record {
   tokens = 1;
-  at = λ c p. unless (violations p ((2, is_some (outermost fs (name_of f.name))) ∷ (8, is_kernel f.lead && is_some (result_of f.returns)) ∷ [])) tt;
+  at = λ c p. unless (violations p ((S2, is_some (outermost fs (name_of f.name))) ∷ (S8, is_kernel f.lead && is_some (result_of f.returns)) ∷ [])) tt;
 }
 
 -- what is before the parameters
@@ -122,10 +123,9 @@ function_at before p f =
       body = st.Block body;
     }))
 
--- one more than it reaches; 17 stands for all heights above 16. The height of a function at fault decides nothing, since its fault
--- stands before each call of it
+-- one more than it reaches. The height of a function at fault decides nothing, since its fault stands before each call of it
 abbrev pub height_in : List ℕ → Judged TFunction → ℕ
-height_in heights (Fine f) = min (suc (stmt_reach heights f.body)) 17
+height_in heights (Fine f) = suc (stmt_reach heights f.body)
 height_in heights (Faulty f fs) = 0
 
 abbrev pub with_function : Before → ℕ → Function → Before

@@ -1,10 +1,11 @@
 -- The typing rules, by the types of operands and their places, and the types that expressions get (OpenCL C 1.2, 6.2, 6.3 and 6.5;
 -- C99, 6.3.1.8 and 6.5). p, q and r are the numbers of the operands' first tokens.
-use Rattle.std.specs.Prelude.{ℕ, Bool, true, false, not, ◌&&◌, ◌||◌, eqb, nat_eq, List, [], ◌∷◌, ◌++◌, Option, Some, None, length, map, bytes_eq, slice_get}
+use Rattle.std.specs.Prelude.{ℕ, Bool, true, false, not, ◌&&◌, ◌||◌, eqb, nat_eq, nat_le, List, [], ◌∷◌, ◌++◌, Option, Some, None, length, map, bytes_eq, slice_get}
 use Rattle.clc_lexer.specs.declared.marks.Mark.{Mark}
 use Rattle.clc_lexer.specs.declared.marks.Mark.TheVariants as m
 use Rattle.q_lane.specs.declared.kinds.Scalar.{Scalar}
-use Rattle.q_lane.specs.declared.kinds.Scalar.TheVariants.{Char, Uchar, Short, Ushort, Int, Uint}
+use Rattle.q_lane.specs.declared.kinds.Scalar.TheVariants.{Int, Uint}
+use Rattle.clc_types.specs.declared.type_rule.TypeRule.TheVariants.{S3, S4, S5, S6, S7, S8, S9, S12, S13}
 use Rattle.clc_types.specs.declared.typed.Builtin.{Builtin}
 use Rattle.clc_types.specs.declared.typed.Builtin.TheVariants as b
 use Rattle.clc_types.specs.declared.typed.Ty.{Ty}
@@ -26,6 +27,7 @@ use Rattle.clc_types.specs.declared.forms.Argument.{Argument}
 use Rattle.clc_types.specs.declared.forms.Signature.{Signature}
 use Rattle.clc_types.specs.declared.forms.Home.{Home}
 use Rattle.clc_types.specs.Judged.{violations}
+pub use Rattle.clc_types.specs.TypeArithmetic.{same_scalar, is_uint, int_or_uint, common, promoted, unsigned_of, Operator, Sum, Arithmetic, Shift, Truth, Comma, operator_of}
 
 -- ---- kinds of operands
 
@@ -52,15 +54,6 @@ is_nowhere _ = false
 abbrev pub is_constant : Place → Bool
 is_constant place.Constant = true
 is_constant _ = false
-
-abbrev pub same_scalar : Scalar → Scalar → Bool
-same_scalar Char Char = true
-same_scalar Uchar Uchar = true
-same_scalar Short Short = true
-same_scalar Ushort Ushort = true
-same_scalar Int Int = true
-same_scalar Uint Uint = true
-same_scalar _ _ = false
 
 abbrev pub same_space : Space → Space → Bool
 same_space space.Global space.Global = true
@@ -113,27 +106,27 @@ result_kind (Some s) = k.Value s
 
 -- S3: a value is needed; S12: a scalar is needed
 abbrev pub scalar_needed : ℕ → Kind → List Fault
-scalar_needed p t = violations p ((3, is_void t) ∷ (12, is_pointer t || is_array t) ∷ [])
+scalar_needed p t = violations p ((S3, is_void t) ∷ (S12, is_pointer t || is_array t) ∷ [])
 
 -- S3, S12: what stands before `[` is a pointer or an array
 abbrev pub indexed_needed : ℕ → Kind → List Fault
-indexed_needed p t = violations p ((3, is_void t) ∷ (12, is_scalar t) ∷ [])
+indexed_needed p t = violations p ((S3, is_void t) ∷ (S12, is_scalar t) ∷ [])
 
 -- S3, S12: what stands after `*` is a pointer
 abbrev pub pointer_needed : ℕ → Kind → List Fault
-pointer_needed p t = violations p ((3, is_void t) ∷ (12, is_scalar t || is_array t) ∷ [])
+pointer_needed p t = violations p ((S3, is_void t) ∷ (S12, is_scalar t || is_array t) ∷ [])
 
 -- S12: an array stands before `[` alone
 abbrev pub no_array : ℕ → Kind → List Fault
-no_array p t = violations p ((12, is_array t) ∷ [])
+no_array p t = violations p ((S12, is_array t) ∷ [])
 
 -- S3, S12: a variable gets a value
 abbrev pub fit_needed : (place : Kind) → ℕ → Kind → List Fault
-fit_needed t q a = violations q ((3, is_void a) ∷ (12, not (is_void a) && not (matches t a)) ∷ [])
+fit_needed t q a = violations q ((S3, is_void a) ∷ (S12, not (is_void a) && not (matches t a)) ∷ [])
 
 -- S3, S4, S5, S12: the operand of `++` or `--`
 abbrev pub step_needs : ℕ → Form → List Fault
-step_needs p x = violations p ((3, is_void x.kind) ∷ (4, is_nowhere x.place) ∷ (5, is_constant x.place) ∷ (12, is_array x.kind) ∷ [])
+step_needs p x = violations p ((S3, is_void x.kind) ∷ (S4, is_nowhere x.place) ∷ (S5, is_constant x.place) ∷ (S12, is_array x.kind) ∷ [])
 
 abbrev pub index_needs : ℕ → Form → ℕ → Form → List Fault
 index_needs p x q y = indexed_needed p x.kind ++ scalar_needed q y.kind
@@ -154,54 +147,16 @@ is_plus _ = false
 abbrev pub operands_needed : Mark → ℕ → Kind → ℕ → Kind → List Fault
 operands_needed m.Comma p a q b = no_array p a ++ no_array q b
 operands_needed o p a q b =
-    violations p ((3, is_void a) ∷ (12, is_array a || (is_pointer a && not (is_sum o))) ∷ [])
-    ++ violations q ((3, is_void b) ∷ (12, is_array b || (is_pointer b && not (is_plus o && is_scalar a))) ∷ [])
+    violations p ((S3, is_void a) ∷ (S12, is_array a || (is_pointer a && not (is_sum o))) ∷ [])
+    ++ violations q ((S3, is_void b) ∷ (S12, is_array b || (is_pointer b && not (is_plus o && is_scalar a))) ∷ [])
 
 abbrev pub operator_needs : Mark → ℕ → Sofar → ℕ → Form → List Fault
 operator_needs o p a q y = operands_needed o p a.kind q y.kind
-
--- the common type of two numbers, and the type of one alone
-abbrev pub is_uint : Scalar → Bool
-is_uint Uint = true
-is_uint _ = false
-
-abbrev pub int_or_uint : Bool → Scalar
-int_or_uint true = Uint
-int_or_uint false = Int
-
-abbrev pub common : Scalar → Scalar → Scalar
-common s t = int_or_uint (is_uint s || is_uint t)
-
-abbrev pub promoted : Scalar → Scalar
-promoted s = int_or_uint (is_uint s)
 
 -- the scalar of a number; of anything else a test has refused before
 abbrev pub scalar_of : Kind → Scalar
 scalar_of (k.Value s) = s
 scalar_of _ = Int
-
-pub data Operator : Type 0 where
-  Sum : Operator
-  Arithmetic : Operator
-  Shift : Operator
-  Truth : Operator
-  Comma : Operator
-
-abbrev pub operator_of : Mark → Operator
-operator_of m.Plus = Sum
-operator_of m.Minus = Sum
-operator_of m.ShiftLeft = Shift
-operator_of m.ShiftRight = Shift
-operator_of m.Less = Truth
-operator_of m.Greater = Truth
-operator_of m.LessEqual = Truth
-operator_of m.GreaterEqual = Truth
-operator_of m.EqualEqual = Truth
-operator_of m.BangEqual = Truth
-operator_of m.AndAnd = Truth
-operator_of m.OrOr = Truth
-operator_of m.Comma = Comma
-operator_of _ = Arithmetic
 
 abbrev pub sum_kind : Kind → Kind → Kind
 sum_kind (k.Pointer s c e) b = k.Pointer s c e
@@ -255,11 +210,11 @@ gets o a b = is_scalar b
 
 -- S3, S4, S5, S12: what is assigned to
 abbrev pub assigned_needed : Mark → ℕ → Kind → Place → List Fault
-assigned_needed o p t x = violations p ((3, is_void t) ∷ (4, is_nowhere x) ∷ (5, is_constant x) ∷ (12, is_array t || (is_pointer t && not (takes_pointer o))) ∷ [])
+assigned_needed o p t x = violations p ((S3, is_void t) ∷ (S4, is_nowhere x) ∷ (S5, is_constant x) ∷ (S12, is_array t || (is_pointer t && not (takes_pointer o))) ∷ [])
 
 -- S3, S12: the value that is assigned
 abbrev pub value_needed : Mark → Kind → ℕ → Kind → List Fault
-value_needed o t q a = violations q ((3, is_void a) ∷ (12, not (is_void a) && not (gets o t a)) ∷ [])
+value_needed o t q a = violations q ((S3, is_void a) ∷ (S12, not (is_void a) && not (gets o t a)) ∷ [])
 
 abbrev pub assign_needs : Mark → ℕ → Form → ℕ → Form → List Fault
 assign_needs o p x q y = assigned_needed o p x.kind x.place ++ value_needed o x.kind q y.kind
@@ -270,21 +225,21 @@ assign_needs o p x q y = assigned_needed o p x.kind x.place ++ value_needed o x.
 abbrev pub fits : List Shape → List Argument → List Fault
 fits [] xs = []
 fits (s ∷ ss) [] = []
-fits (s ∷ ss) (x ∷ xs) = violations x.place ((7, not (matches (kind_of 0 s) x.kind)) ∷ []) ++ fits ss xs
+fits (s ∷ ss) (x ∷ xs) = violations x.place ((S7, not (matches (kind_of 0 s) x.kind)) ∷ []) ++ fits ss xs
 
 -- a function that must not be called from another one, since it would be too high then
 abbrev pub is_highest : Option ℕ → Bool
 is_highest None = false
-is_highest (Some h) = eqb h 16
+is_highest (Some h) = nat_le 16 h
 
 -- S6, S8, S9, S7: a call of function f in the function after those that have a height
 abbrev pub signed_needs : ℕ → Home → ℕ → Option Signature → List Argument → List Fault
 signed_needs p home f None args = []
 signed_needs p home f (Some s) args =
     violations p
-    ((6, not (eqb (length s.params) (length args)))
-    ∷ (8, s.kernel && not (eqb f (length home.heights)))
-    ∷ (9, eqb f (length home.heights) || is_highest (slice_get home.heights f)) ∷ [])
+    ((S6, not (eqb (length s.params) (length args)))
+    ∷ (S8, s.kernel && not (eqb f (length home.heights)))
+    ∷ (S9, eqb f (length home.heights) || is_highest (slice_get home.heights f)) ∷ [])
     ++ fits s.params args
 
 abbrev pub call_needs : ℕ → Home → ℕ → List Argument → List Fault
@@ -333,7 +288,7 @@ builtin_params b.SubSat = number ∷ number ∷ []
 
 -- S6, S7
 abbrev pub builtin_needs : ℕ → Builtin → List Argument → List Fault
-builtin_needs p f args = violations p ((6, not (eqb (length (builtin_params f)) (length args))) ∷ []) ++ fits (builtin_params f) args
+builtin_needs p f args = violations p ((S6, not (eqb (length (builtin_params f)) (length args))) ∷ []) ++ fits (builtin_params f) args
 
 -- all arguments are of one type, or some is a uint
 abbrev pub all_are : Scalar → List Argument → Bool
@@ -365,14 +320,6 @@ work_of b.GetNumGroups xs = Uint
 work_of b.Mul24 xs = int_or_uint (some_uint xs)
 work_of _ xs = number_type xs
 
-abbrev pub unsigned_of : Scalar → Scalar
-unsigned_of Char = Uchar
-unsigned_of Uchar = Uchar
-unsigned_of Short = Ushort
-unsigned_of Ushort = Ushort
-unsigned_of Int = Uint
-unsigned_of Uint = Uint
-
 -- what it gives: abs and abs_diff the unsigned form of the type in which they work
 abbrev pub gives : Builtin → Scalar → Scalar
 gives b.Abs s = unsigned_of s
@@ -383,13 +330,13 @@ gives _ s = s
 
 -- S13: a value is returned where the function gives one, and only there
 abbrev pub return_needs : Option Scalar → ℕ → Kind → List Fault
-return_needs None p a = violations p ((13, true) ∷ [])
-return_needs (Some s) p a = violations p ((13, not (is_scalar a)) ∷ [])
+return_needs None p a = violations p ((S13, true) ∷ [])
+return_needs (Some s) p a = violations p ((S13, not (is_scalar a)) ∷ [])
 
 abbrev pub bare_needs : Option Scalar → ℕ → List Fault
 bare_needs None p = []
-bare_needs (Some s) p = violations p ((13, true) ∷ [])
+bare_needs (Some s) p = violations p ((S13, true) ∷ [])
 
 -- S11: an array has from 1 to 1,024 elements
 abbrev pub is_size : ℕ → Bool
-is_size n = not (eqb n 0) && Rattle.std.specs.Prelude.nat_le n 1024
+is_size n = not (eqb n 0) && nat_le n 1024

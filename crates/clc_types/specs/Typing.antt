@@ -9,6 +9,7 @@ use Rattle.clc_tree.specs.declared.expressions.Scalar.{Scalar as Written}
 use Rattle.clc_tree.specs.declared.expressions.Assign.TheOpen as o
 use Rattle.clc_tree.specs.declared.expressions.Assign.TheOpen.{Assign-F, Cast-F, Chain-F, PostStep-F, Primary-F, Unary-F, ChainStep-F, Choice-F, CommaStep-F, Cond-F, Expr-F, Post-F}
 use Rattle.clc_tree.specs.declared.expressions.Assign.TheFolds.{fold-Assign, fold-Expr}
+use Rattle.clc_types.specs.declared.type_rule.TypeRule.TheVariants.{S1}
 use Rattle.clc_types.specs.declared.typed.Builtin.{Builtin}
 use Rattle.clc_types.specs.declared.typed.Node.{Node}
 use Rattle.clc_types.specs.declared.typed.Node.TheVariants as n
@@ -123,18 +124,18 @@ builtin_form t f args = plain t.from (k.Value (gives f (work_of f args))) (n.Bui
 -- S1: a name that isn't called is a variable's
 abbrev pub name_at : Token → ℕ → Option Named → Judged Form
 name_at t p (Some (nm.Variable v s)) = Fine (variable_form t v s)
-name_at t p _ = Faulty (record { token = p; rule = 1 }) []
+name_at t p _ = Faulty (record { token = p; rule = S1 }) []
 
 -- S1: a called name is a function's
 abbrev pub callee_at : ℕ → Option Named → Judged Named
 callee_at p (Some (nm.Function f)) = Fine (nm.Function f)
 callee_at p (Some (nm.Builtin f)) = Fine (nm.Builtin f)
-callee_at p _ = Faulty (record { token = p; rule = 1 }) []
+callee_at p _ = Faulty (record { token = p; rule = S1 }) []
 
 abbrev pub called : Context → ℕ → Token → Named → List Argument → Judged Form
 called c p t (nm.Function f) args = unless (call_needs p c.home f args) (call_form t f (slice_get c.home.functions f) args)
 called c p t (nm.Builtin f) args = unless (builtin_needs p f args) (builtin_form t f args)
-called c p t (nm.Variable v s) args = Faulty (record { token = p; rule = 1 }) []
+called c p t (nm.Variable v s) args = Faulty (record { token = p; rule = S1 }) []
 
 -- ---- one level of a tree, with what is judged of each part in its place. Each operator of a chain is a part of its own, whose first
 -- ---- operand is all that stands before it

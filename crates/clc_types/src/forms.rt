@@ -1,5 +1,6 @@
 //! What the checker knows of names and expressions while it walks.
 
+use crate::type_rule::TypeRule;
 use crate::typed::{Builtin, TExpr};
 use clc_lexer::Mark;
 use q_lane::Scalar;
@@ -9,7 +10,7 @@ use sqlite_items::Items;
 #[derive(Clone, Copy)]
 pub struct Fault {
     pub token: u32,
-    pub rule: u8,
+    pub rule: TypeRule,
 }
 
 /// The address space of a pointer's elements (OpenCL C 1.2, 6.5).

@@ -4,6 +4,7 @@ ghost use Rattle.std.specs.Prelude.{◌≡◌, true};
 ghost use Rattle.clc_types.specs.Names.{spelling as spelling_of, builtin_of};
 ghost use Rattle.clc_types.specs.WellTyped.{is_well_typed};
 
+use crate::type_rule::TypeRule;
 use clc_lexer::{Mark, Text};
 use q_lane::Scalar;
 use sqlite_items::{Boxed, Items};
@@ -241,9 +242,9 @@ pub struct Typed {
 /// Why a program has no typed tree.
 #[derive(Clone, Copy, Debug, PartialEq, Eq)]
 pub enum TypeFault {
-    /// The number of the first violated rule, and of the token at which it is violated. The lesser token comes first,
-    /// and then the lesser rule.
-    Rule { rule: u8, token: u32 },
+    /// The first violated rule, and the number of the token at which it is violated. The lesser token comes first, and
+    /// then the rule that stands first.
+    Rule { rule: TypeRule, token: u32 },
     /// No memory was left.
     Memory,
 }

@@ -8,7 +8,7 @@ use Rattle.clc_types.specs.declared.typed.TStmt.{TStmt}
 use Rattle.clc_types.specs.declared.typed.TStmt.TheVariants as st
 use Rattle.clc_types.specs.declared.typed.TypeFault.{TypeFault}
 use Rattle.clc_types.specs.declared.scope.State.{State}
-use Rattle.clc_types.specs.Steps.{View, Stepped, PieceWalk, seq, made, opened, past, looping, skipped, entered, Stands, view_of, for_start_walk, maybe_condition, maybe_value, walk_stmt, walk_for, block_part_walk, stmt_walk, block_walk, do_walk, else_walk, for_walk, if_walk, while_walk}
+use Rattle.clc_types.specs.InternalSteps.{View, Stepped, PieceWalk, seq, made, opened, past, looping, skipped, entered, Stands, view_of, for_start_walk, maybe_condition, maybe_value, walk_stmt, walk_for, block_part_walk, stmt_walk, block_walk, do_walk, else_walk, for_walk, if_walk, while_walk}
 use Rattle.clc_walk.proofs.Listed.{seq_stop, seq_stops, opened_stops}
 
 module _ (x : For) (l : Bool) (v : View) where

@@ -2,16 +2,17 @@
 use Rattle.std.proofs.Common.{◌≡◌, ℕ, Bool, true, false, List, [], ◌∷◌, ◌++◌, Option, Some, None, refl, sym, ap, ◌∙◌, Result, Ok, Err}
 use Rattle.std.specs.Prelude.{is_some, ◌&&◌}
 use Rattle.clc_tree.specs.declared.functions.Function.{Function}
+use Rattle.clc_types.specs.declared.type_rule.TypeRule.TheVariants.{S2, S8}
 use Rattle.clc_types.specs.declared.forms.Named.{Named}
 use Rattle.clc_types.specs.declared.scope.State.{State}
 use Rattle.clc_types.specs.Judged.{violations}
 use Rattle.clc_types.specs.Words.{name_of, is_kernel}
 use Rattle.clc_types.specs.Names.{or_else, builtin_named, builtin_of}
-use Rattle.clc_types.specs.Scope.{found, known}
+use Rattle.clc_types.specs.InternalScope.{found, known}
 use Rattle.clc_types.specs.Programs.{result_of}
-use Rattle.clc_types.specs.Walk.{Right, guarded, bump}
-use Rattle.clc_types.specs.Steps.{View, reach, knows_in, Stands, view_of}
-use Rattle.clc_types.specs.Walks.{heading_in}
+use Rattle.clc_types.specs.InternalWalk.{Right, guarded, bump}
+use Rattle.clc_types.specs.InternalSteps.{View, reach, knows_in, Stands, view_of}
+use Rattle.clc_types.specs.InternalWalks.{heading_in}
 use Rattle.clc_types.proofs.Scopes.{known_last}
 
 none_first : (a b c : Option Named) → or_else (or_else a b) c ≡ None → a ≡ None
@@ -19,7 +20,7 @@ none_first (Some x) b c h = absurd (cc)
 none_first None b c h = refl
 
 tested : (v : View) (o : Option Named) (k : Bool) (u : Unit {0}) (new : State)
-    → Stands (reach v (guarded (violations v.at ((2, is_some o) ∷ (8, k) ∷ [])) (Right tt (bump v.at 1)))) (Ok u) new → (o ≡ None) × (v.inner ≡ (view_of new).inner)
+    → Stands (reach v (guarded (violations v.at ((S2, is_some o) ∷ (S8, k) ∷ [])) (Right tt (bump v.at 1)))) (Ok u) new → (o ≡ None) × (v.inner ≡ (view_of new).inner)
 tested v (Some x) k u new h = absurd h
 tested v None true u new h = absurd h
 tested v None false u new h = (refl, ap (λ w. w.inner) h.1)

@@ -4,7 +4,7 @@ use Rattle.std.specs.Result.{IsErrAnd}
 use Rattle.clc_types.specs.declared.typed.TypeFault.{TypeFault}
 use Rattle.clc_types.specs.declared.typed.TypeFault.TheVariants.{Rule, Memory}
 use Rattle.clc_types.specs.declared.scope.State.{State}
-use Rattle.clc_types.specs.Steps.{View, Stepped, Goes, Stops, and_then, PieceWalk, seq, made, opened, listed, ending, past, skipped, entered, left, Stands, view_of}
+use Rattle.clc_types.specs.InternalSteps.{View, Stepped, Goes, Stops, and_then, PieceWalk, seq, made, opened, listed, ending, past, skipped, entered, left, Stands, view_of}
 
 -- what is listed after a list is what is listed alone, after it
 pub after_list : {A : Type 0} (done d : List A) (ws : List (PieceWalk (List A))) (l : Bool) (v : View)

@@ -2,8 +2,8 @@
 use Rattle.std.proofs.Common.{◌≡◌, List, [], ◌∷◌, Some, None, refl, ap}
 use Rattle.std.specs.Prelude.{unwrap_or}
 use Rattle.clc_types.specs.declared.forms.Fault.{Fault}
-use Rattle.clc_types.specs.Answers.{first}
-use Rattle.clc_types.specs.Walk.{Walked, Wrong, guarded}
+use Rattle.clc_types.specs.InternalAnswers.{first}
+use Rattle.clc_types.specs.InternalWalk.{Walked, Wrong, guarded}
 
 pub guarded_stops : {A : Type 0} → (fs : List Fault) (f : Fault) (go : Walked A) → first fs ≡ Some f → guarded fs go ≡ Wrong f
 guarded_stops [] f go e = absurd (cc)

@@ -30,9 +30,9 @@ use Rattle.clc_types.specs.declared.forms.Sofar.{Sofar}
 use Rattle.clc_types.specs.declared.typed.TypeFault.{TypeFault}
 use Rattle.clc_types.specs.declared.typed.TypeFault.TheVariants.{Rule, Memory}
 use Rattle.clc_types.specs.Words.{mark_of}
-use Rattle.clc_types.specs.Scope.{Known}
-use Rattle.clc_types.specs.Answers.{Walks, first, items_in}
-use Rattle.clc_types.specs.Walk.{bump, operator_end, walk_series, chain_start, chain_end, conditional_end, assign_end, paren_end, index_end, comma, walk_operator, walk_operators, walk_rest, walk_argument, walk_arguments, walk_further, walk_suffix, walk_suffixes, Walked, Right, Wrong, Walk, WalkSuffix, WalkOperand, WalkChoices, WalkSeries, At, after, guarded, walk_conditional, assign_walk, cast_walk, chain_walk, post_step_walk, primary_walk, unary_walk, chain_step_walk, choice_walk, comma_step_walk, cond_walk, expr_walk, post_walk, walk_assign, walk_chain, walk_chain_step, walk_choice, walk_comma_step, walk_cond, walk_expr, walk_post, walk_post_step, walk_primary, walk_unary, series_of}
+use Rattle.clc_types.specs.InternalScope.{Known}
+use Rattle.clc_types.specs.InternalAnswers.{Walks, first, items_in}
+use Rattle.clc_types.specs.InternalWalk.{bump, operator_end, walk_series, chain_start, chain_end, conditional_end, assign_end, paren_end, index_end, comma, walk_operator, walk_operators, walk_rest, walk_argument, walk_arguments, walk_further, walk_suffix, walk_suffixes, Walked, Right, Wrong, Walk, WalkSuffix, WalkOperand, WalkChoices, WalkSeries, At, after, guarded, walk_conditional, assign_walk, cast_walk, chain_walk, post_step_walk, primary_walk, unary_walk, chain_step_walk, choice_walk, comma_step_walk, cond_walk, expr_walk, post_walk, walk_assign, walk_chain, walk_chain_step, walk_choice, walk_comma_step, walk_cond, walk_expr, walk_post, walk_post_step, walk_primary, walk_unary, series_of}
 use Rattle.clc_walk.proofs.Steps.{guarded_stops}
 
 -- where no memory is left nothing is said

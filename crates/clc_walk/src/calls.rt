@@ -3,21 +3,19 @@
 ghost use Rattle.std.specs.Prelude.{◌≡◌, length, slice_get};
 ghost use Rattle.clc_types.specs.Rules.{call_needs as call_needs_of, call_kind as call_kind_of, fits as fits_of, is_highest as is_highest_of, signed_needs, builtin_needs as builtin_needs_of, builtin_params as builtin_params_of, all_are as all_are_of, some_uint as some_uint_of, number_type as number_type_of, work_of as work_of_builtin, unsigned_of as unsigned_of_scalar, gives as gives_of};
 ghost use Rattle.clc_types.specs.Typing.{exprs as exprs_of};
-ghost use Rattle.clc_types.specs.Answers.{Walks, Gives, first as first_of};
-ghost use Rattle.clc_types.specs.Walk.{by_callee, call_end as call_end_of};
+ghost use Rattle.clc_types.specs.InternalAnswers.{Walks, Gives, first as first_of};
+ghost use Rattle.clc_types.specs.InternalWalk.{by_callee, call_end as call_end_of};
 ghost use Rattle.clc_types.specs.declared.forms.Named.TheVariants as named;
 
 use crate::expressions::{broken, memory, plain, skip};
 use crate::rules::{kind_of, matches, scalar_of};
 use clc_lexer::Token;
-use clc_types::{
-    Argument, Builtin, Fault, Form, Home, Kind, Named, Node, Shape, Signature, TExpr, TypeFault,
-};
+use clc_types::{Argument, Builtin, Fault, Form, Home, Kind, Named, Node, Shape, Signature, TExpr, TypeFault, TypeRule};
 use q_lane::Scalar;
 use sqlite_items::Items;
 use std::alloc::Global;
 
-/// Functions of this height may not be called.
+/// Functions of this height and above it may not be called.
 const HIGHEST: u32 = 16;
 
 /// A built-in function's parameter, which takes a number of any type.
@@ -26,7 +24,7 @@ const NUMBER: Shape = Shape::Value {
     fixed: false,
 };
 
-fn fault(token: u32, rule: u8) -> Option<Fault>
+fn fault(token: u32, rule: TypeRule) -> Option<Fault>
     ensures { result ≡ Rattle.std.specs.Prelude.Some (record { token = token; rule = rule }) }
 {
     Some(Fault { token, rule })
@@ -39,7 +37,7 @@ fn fits(params: &[Shape], args: &[Argument]) -> Option<Fault>
     for (i, param) in params.iter().enumerate() {
         let x = &args[i];
         if !matches(kind_of(0, *param), x.kind) {
-            return fault(x.place, 7);
+            return fault(x.place, TypeRule::S7);
         }
     }
     None
@@ -48,7 +46,10 @@ fn fits(params: &[Shape], args: &[Argument]) -> Option<Fault>
 fn is_highest(height: Option<u32>) -> bool
     ensures { result ≡ is_highest_of height }
 {
-    height == Some(HIGHEST)
+    match height {
+        None => false,
+        Some(height) => height >= HIGHEST,
+    }
 }
 
 fn height_at(home: &Home, function: u32) -> Option<u32>
@@ -68,11 +69,11 @@ fn signature_needs(
 {
     let itself = function as usize == home.heights.len();
     if signature.params.len() != args.len() {
-        fault(p, 6)
+        fault(p, TypeRule::S6)
     } else if signature.kernel && !itself {
-        fault(p, 8)
+        fault(p, TypeRule::S8)
     } else if itself || is_highest(height_at(home, function)) {
-        fault(p, 9)
+        fault(p, TypeRule::S9)
     } else {
         fits(signature.params.as_slice(), args)
     }
@@ -133,7 +134,7 @@ fn builtin_needs(p: u32, which: Builtin, args: &[Argument]) -> Option<Fault>
 {
     let params = builtin_params(which);
     if params.len() != args.len() {
-        return fault(p, 6);
+        return fault(p, TypeRule::S6);
     }
     fits(params, args)
 }
@@ -261,7 +262,7 @@ fn builtin_end(
 }
 
 /// A call, once its arguments are there.
-#[tactic(auto, unfolding(clc_types::specs::Walk::call_end))]
+#[tactic(auto, unfolding(clc_types::specs::InternalWalk::call_end))]
 pub fn call_end(
     alloc: Global,
     at: &mut u32,
@@ -276,6 +277,6 @@ pub fn call_end(
     match callee {
         Named::Function(function) => function_end(alloc, at, home, p, name, function, list),
         Named::Builtin(which) => builtin_end(alloc, at, home, p, name, which, list),
-        Named::Variable(_, _) => Err(TypeFault::Rule { rule: 1, token: p }),
+        Named::Variable(_, _) => Err(TypeFault::Rule { rule: TypeRule::S1, token: p }),
     }
 }

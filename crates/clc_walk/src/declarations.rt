@@ -2,11 +2,11 @@
 
 ghost use Rattle.std.specs.Prelude.{◌≡◌, ◌+◌, [], ◌∷◌, ◌++◌, None, is_some, map, drop};
 ghost use Rattle.std.specs.Prelude.{◌||◌};
-ghost use Rattle.clc_types.specs.Answers.{Walks, Gives, unit_is};
-ghost use Rattle.clc_types.specs.Scope.{seen, found};
+ghost use Rattle.clc_types.specs.InternalAnswers.{Walks, Gives, unit_is};
+ghost use Rattle.clc_types.specs.InternalScope.{seen, found};
 ghost use Rattle.clc_types.specs.Words.{one_if as one_if_of, type_tokens as type_tokens_of};
 ghost use Rattle.clc_types.specs.Blocks.{pointer_shape as pointer_shape_of, pointer_tokens as pointer_tokens_of};
-ghost use Rattle.clc_types.specs.Steps.{Stands, Reaches, view_of, declared_in, size_in, fit_end as fit_end_of, init_in, item_walk, item_step_walk, declare_walk, listed};
+ghost use Rattle.clc_types.specs.InternalSteps.{Stands, Reaches, view_of, declared_in, size_in, fit_end as fit_end_of, init_in, item_walk, item_step_walk, declare_walk, listed};
 
 use crate::expressions::{broken, memory, skip};
 use crate::rules::{fit_needed, is_size, kind_of, var_of};
@@ -15,7 +15,7 @@ use crate::state::{assigned, number, pass, push};
 use crate::words::{name_of, one_if, space_of, type_of, type_tokens, value_of};
 use clc_lexer::Token;
 use clc_tree::{Declare, Init, Item, ItemStep, Pointer, Scalar as Written};
-use clc_types::{Form, Kind, Named, Shape, State, TExpr, TStmt, TypeFault};
+use clc_types::{Form, Kind, Named, Shape, State, TExpr, TStmt, TypeFault, TypeRule};
 use indexmap::IndexMap;
 use q_lane::Scalar;
 use sqlite_items::Items;
@@ -51,7 +51,7 @@ pub fn add(
 }
 
 /// Declares a name in the innermost block, and gives the variable's number.
-#[tactic(auto, unfolding(clc_types::specs::Steps::declared_in))]
+#[tactic(auto, unfolding(clc_types::specs::InternalSteps::declared_in))]
 pub fn declare(
     alloc: Global,
     state: &mut State,
@@ -62,7 +62,7 @@ pub fn declare(
 {
     match probe(&state.scope.inner, name) {
         Some(_) => Err(TypeFault::Rule {
-            rule: 2,
+            rule: TypeRule::S2,
             token: state.at,
         }),
         None => {
@@ -80,7 +80,7 @@ pub fn declare(
     }
 }
 
-#[tactic(auto, unfolding(clc_types::specs::Steps::size_in))]
+#[tactic(auto, unfolding(clc_types::specs::InternalSteps::size_in))]
 fn size(at: &mut u32, token: &Token) -> Result<(), TypeFault>
     ensures { Walks (size_in token.now at.old) result at.new }
 {
@@ -88,7 +88,7 @@ fn size(at: &mut u32, token: &Token) -> Result<(), TypeFault>
     skip(at, 1);
     if !is_size(value_of(token)) {
         return Err(TypeFault::Rule {
-            rule: 11,
+            rule: TypeRule::S11,
             token: *at,
         });
     }
@@ -97,7 +97,7 @@ fn size(at: &mut u32, token: &Token) -> Result<(), TypeFault>
     Ok(())
 }
 
-#[tactic(auto, using(crate::proofs::Steps::guarded_stops, crate::proofs::Steps::guarded_goes), unfolding(clc_types::specs::Steps::fit_end))]
+#[tactic(auto, using(crate::proofs::Steps::guarded_stops, crate::proofs::Steps::guarded_goes), unfolding(clc_types::specs::InternalSteps::fit_end))]
 fn fit_end(at: &u32, kind: Kind, q: u32, x: Form) -> Result<Option<TExpr>, TypeFault>
     ensures { Walks (fit_end_of kind q x at.now) result at.now }
 {
@@ -108,7 +108,7 @@ fn fit_end(at: &u32, kind: Kind, q: u32, x: Form) -> Result<Option<TExpr>, TypeF
     Ok(Some(expr))
 }
 
-#[tactic(auto, unfolding(clc_types::specs::Steps::init_in))]
+#[tactic(auto, unfolding(clc_types::specs::InternalSteps::init_in))]
 fn initial(
     alloc: Global,
     state: &mut State,

@@ -3,9 +3,9 @@
 ghost use Rattle.std.specs.Prelude.{◌≡◌, ◌+◌, [], ◌∷◌, ◌++◌, Some, map};
 ghost use Rattle.clc_types.specs.Words.{type_tokens as type_tokens_of};
 ghost use Rattle.clc_types.specs.Typing.{element_node as element_node_of, deref_form as deref_form_of, argument, plain as plain_of, number_form as number_form_of, variable_form as variable_form_of};
-ghost use Rattle.clc_types.specs.Scope.{knows};
-ghost use Rattle.clc_types.specs.Answers.{Walks, Gives, items_in};
-ghost use Rattle.clc_types.specs.Walk.{bump, paren_end as paren_end_of, index_end as index_end_of, post_end as post_end_of, step_end as step_end_of, prefix_end as prefix_end_of, cast_end as cast_end_of, chain_start as chain_start_of, operator_end as operator_end_of, chain_end as chain_end_of, conditional_end as conditional_end_of, assign_end as assign_end_of, comma as comma_of, walk_operator, walk_operators, walk_argument, walk_arguments, walk_suffix, series_of, walk_expr, walk_assign, walk_cast, walk_chain, walk_primary, walk_unary, walk_chain_step, walk_comma_step, walk_cond, walk_post, walk_post_step, map_series};
+ghost use Rattle.clc_types.specs.InternalScope.{knows};
+ghost use Rattle.clc_types.specs.InternalAnswers.{Walks, Gives, items_in};
+ghost use Rattle.clc_types.specs.InternalWalk.{bump, paren_end as paren_end_of, index_end as index_end_of, post_end as post_end_of, step_end as step_end_of, prefix_end as prefix_end_of, cast_end as cast_end_of, chain_start as chain_start_of, operator_end as operator_end_of, chain_end as chain_end_of, conditional_end as conditional_end_of, assign_end as assign_end_of, comma as comma_of, walk_operator, walk_operators, walk_argument, walk_arguments, walk_suffix, series_of, walk_expr, walk_assign, walk_cast, walk_chain, walk_primary, walk_unary, walk_chain_step, walk_comma_step, walk_cond, walk_post, walk_post_step, map_series};
 ghost use Rattle.clc_lexer.specs.declared.marks.Mark.TheVariants.{Comma};
 
 use crate::calls::call_end;
@@ -21,9 +21,7 @@ use clc_tree::{
     Assign, Cast, Chain, ChainStep, CommaStep, Cond, Expr, Post, PostStep, Primary,
     Scalar as Written, Unary,
 };
-use clc_types::{
-    Argument, Fault, Form, Kind, Named, Node, Place, Scope, Shape, Sofar, TExpr, TypeFault,
-};
+use clc_types::{Argument, Fault, Form, Kind, Named, Node, Place, Scope, Shape, Sofar, TExpr, TypeFault, TypeRule};
 use q_lane::Scalar;
 use sqlite_items::{Boxed, Items};
 use std::alloc::{AllocError, Global};
@@ -101,7 +99,7 @@ fn variable_form(token: &Token, var: u32, shape: Shape) -> Form
     }
 }
 
-#[tactic(auto, unfolding(clc_types::specs::Walk::paren_end))]
+#[tactic(auto, unfolding(clc_types::specs::InternalWalk::paren_end))]
 fn paren_end(alloc: Global, at: &mut u32, opening: &Token, x: Form) -> Result<Form, TypeFault>
     ensures { Walks (paren_end_of opening.now x at.old) result at.new }
 {
@@ -132,7 +130,7 @@ fn element_node(alloc: Global, x: Form, y: Form) -> Result<Node, TypeFault>
     }
 }
 
-#[tactic(auto, using(crate::proofs::Steps::guarded_stops, crate::proofs::Steps::guarded_goes), unfolding(clc_types::specs::Walk::index_end))]
+#[tactic(auto, using(crate::proofs::Steps::guarded_stops, crate::proofs::Steps::guarded_goes), unfolding(clc_types::specs::InternalWalk::index_end))]
 fn index_end(
     alloc: Global,
     at: &mut u32,
@@ -162,7 +160,7 @@ fn index_end(
     })
 }
 
-#[tactic(auto, using(crate::proofs::Steps::guarded_stops, crate::proofs::Steps::guarded_goes), unfolding(clc_types::specs::Walk::post_end))]
+#[tactic(auto, using(crate::proofs::Steps::guarded_stops, crate::proofs::Steps::guarded_goes), unfolding(clc_types::specs::InternalWalk::post_end))]
 fn post_end(
     alloc: Global,
     at: &mut u32,
@@ -186,7 +184,7 @@ fn post_end(
     Ok(plain(first, kind, node))
 }
 
-#[tactic(auto, using(crate::proofs::Steps::guarded_stops, crate::proofs::Steps::guarded_goes), unfolding(clc_types::specs::Walk::step_end))]
+#[tactic(auto, using(crate::proofs::Steps::guarded_stops, crate::proofs::Steps::guarded_goes), unfolding(clc_types::specs::InternalWalk::step_end))]
 fn step_end(alloc: Global, at: &u32, operator: &Token, q: u32, x: Form) -> Result<Form, TypeFault>
     ensures { Walks (step_end_of operator.now q x at.now) result at.now }
 {
@@ -219,7 +217,7 @@ fn deref(alloc: Global, operator: &Token, x: Form) -> Result<Form, TypeFault>
     })
 }
 
-#[tactic(auto, using(crate::proofs::Steps::guarded_stops, crate::proofs::Steps::guarded_goes), unfolding(clc_types::specs::Walk::prefix_end))]
+#[tactic(auto, using(crate::proofs::Steps::guarded_stops, crate::proofs::Steps::guarded_goes), unfolding(clc_types::specs::InternalWalk::prefix_end))]
 fn prefix_end(alloc: Global, at: &u32, operator: &Token, q: u32, x: Form) -> Result<Form, TypeFault>
     ensures { Walks (prefix_end_of operator.now q x at.now) result at.now }
 {
@@ -238,7 +236,7 @@ fn prefix_end(alloc: Global, at: &u32, operator: &Token, q: u32, x: Form) -> Res
     Ok(plain(operator.from, kind, Node::Prefix { op, arg }))
 }
 
-#[tactic(auto, using(crate::proofs::Steps::guarded_stops, crate::proofs::Steps::guarded_goes), unfolding(clc_types::specs::Walk::cast_end))]
+#[tactic(auto, using(crate::proofs::Steps::guarded_stops, crate::proofs::Steps::guarded_goes), unfolding(clc_types::specs::InternalWalk::cast_end))]
 fn cast_end(
     alloc: Global,
     at: &u32,
@@ -256,7 +254,7 @@ fn cast_end(
     Ok(plain(opening.from, Kind::Value(type_of(target)), node))
 }
 
-#[tactic(auto, unfolding(clc_types::specs::Walk::chain_start))]
+#[tactic(auto, unfolding(clc_types::specs::InternalWalk::chain_start))]
 fn chain_start(alloc: Global, x: Form) -> Sofar
     ensures { result ≡ chain_start_of x }
 {
@@ -268,7 +266,7 @@ fn chain_start(alloc: Global, x: Form) -> Sofar
     }
 }
 
-#[tactic(auto, using(crate::proofs::Steps::guarded_stops, crate::proofs::Steps::guarded_goes), unfolding(clc_types::specs::Walk::operator_end))]
+#[tactic(auto, using(crate::proofs::Steps::guarded_stops, crate::proofs::Steps::guarded_goes), unfolding(clc_types::specs::InternalWalk::operator_end))]
 fn operator_end(
     at: &u32,
     mark: Mark,
@@ -293,7 +291,7 @@ fn operator_end(
     Ok(Sofar { kind, first, rest })
 }
 
-#[tactic(auto, unfolding(clc_types::specs::Walk::chain_end))]
+#[tactic(auto, unfolding(clc_types::specs::InternalWalk::chain_end))]
 fn chain_end(alloc: Global, at: &u32, x: Sofar) -> Result<Form, TypeFault>
     ensures { Walks (chain_end_of x at.now) result at.now }
 {
@@ -303,7 +301,7 @@ fn chain_end(alloc: Global, at: &u32, x: Sofar) -> Result<Form, TypeFault>
     Ok(plain(begins, kind, Node::Chain { first, rest }))
 }
 
-#[tactic(auto, using(crate::proofs::Steps::guarded_stops, crate::proofs::Steps::guarded_goes), unfolding(clc_types::specs::Walk::conditional_end))]
+#[tactic(auto, using(crate::proofs::Steps::guarded_stops, crate::proofs::Steps::guarded_goes), unfolding(clc_types::specs::InternalWalk::conditional_end))]
 fn conditional_end(
     alloc: Global,
     at: &u32,
@@ -329,7 +327,7 @@ fn conditional_end(
     Ok(plain(first, kind, node))
 }
 
-#[tactic(auto, using(crate::proofs::Steps::guarded_stops, crate::proofs::Steps::guarded_goes), unfolding(clc_types::specs::Walk::assign_end))]
+#[tactic(auto, using(crate::proofs::Steps::guarded_stops, crate::proofs::Steps::guarded_goes), unfolding(clc_types::specs::InternalWalk::assign_end))]
 fn assign_end(
     alloc: Global,
     at: &u32,
@@ -660,7 +658,7 @@ fn primary(alloc: Global, scope: &Scope, at: &mut u32, e: &Primary) -> Result<Fo
                 skip(at, 1);
                 Ok(variable_form(token, var, shape))
             }
-            _ => Err(TypeFault::Rule { rule: 1, token: p }),
+            _ => Err(TypeFault::Rule { rule: TypeRule::S1, token: p }),
         },
         Primary::Paren(opening, inner, _) => {
             skip(at, 1);
@@ -672,7 +670,7 @@ fn primary(alloc: Global, scope: &Scope, at: &mut u32, e: &Primary) -> Result<Fo
             arguments: written,
             ..
         } => match named(scope, name_of(name)) {
-            None | Some(Named::Variable(_, _)) => Err(TypeFault::Rule { rule: 1, token: p }),
+            None | Some(Named::Variable(_, _)) => Err(TypeFault::Rule { rule: TypeRule::S1, token: p }),
             Some(callee) => {
                 skip(at, 2);
                 let list = arguments(alloc, scope, at, written)?;

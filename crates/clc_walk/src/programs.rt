@@ -1,12 +1,12 @@
 //! The walk over functions.
 
-ghost use Rattle.std.specs.Prelude.{◌≡◌, ◌<◌, ◌^◌, ◌+◌, suc, min, None, [], ◌∷◌, ◌++◌, length, map, drop, false};
-ghost use Rattle.clc_types.specs.Scope.{seen, found};
+ghost use Rattle.std.specs.Prelude.{◌≡◌, ◌<◌, ◌^◌, ◌+◌, suc, None, [], ◌∷◌, ◌++◌, length, map, drop, false};
+ghost use Rattle.clc_types.specs.InternalScope.{seen, found};
 ghost use Rattle.clc_types.specs.Words.{name_of as name_of_token, is_kernel as is_kernel_lead};
-ghost use Rattle.clc_types.specs.Answers.{Walks, Gives, items_in};
+ghost use Rattle.clc_types.specs.InternalAnswers.{Walks, Gives, items_in};
 ghost use Rattle.clc_types.specs.Programs.{param_shape as param_shape_of, param_tokens as param_tokens_of, param_name as param_name_of, shapes_of as shapes_of_params, result_of as result_of_returns, returns_tokens as returns_tokens_of, signature as signature_of};
-ghost use Rattle.clc_types.specs.Steps.{number as number_of, Stands, Goes, view_of};
-ghost use Rattle.clc_types.specs.Walks.{counted_in, param_walk, further_walk, params_in, heading_in, begun, ended, function_in, function_walk, functions_walk};
+ghost use Rattle.clc_types.specs.InternalSteps.{number as number_of, Stands, Goes, view_of};
+ghost use Rattle.clc_types.specs.InternalWalks.{counted_in, param_walk, further_walk, params_in, heading_in, begun, ended, function_in, function_walk, functions_walk};
 
 use crate::declarations::{add, declare, pointer_shape, pointer_tokens, value_tokens};
 use crate::expressions::{memory, skip};
@@ -17,16 +17,13 @@ use crate::statements::block;
 use crate::words::{is_kernel, name_of, one_if, type_of, type_tokens};
 use clc_lexer::{Text, Token};
 use clc_tree::{Function, Param, ParamStep, Params, Returns};
-use clc_types::{Named, Shape, Signature, State, TFunction, TStmt, TypeFault, Var};
+use clc_types::{Named, Shape, Signature, State, TFunction, TStmt, TypeFault, TypeRule, Var};
 use q_lane::Scalar;
 use sqlite_items::Items;
 use std::alloc::Global;
 
 /// The most parameters of a function.
 const MOST_PARAMS: usize = 16;
-
-/// Functions above height 16 aren't told apart.
-const MOST_HEIGHT: u32 = 17;
 
 fn param_shape(param: &Param) -> Shape
     ensures { result ≡ param_shape_of param.now }
@@ -57,13 +54,13 @@ fn param_name(param: &Param) -> &Token
     }
 }
 
-#[tactic(auto, unfolding(clc_types::specs::Walks::counted_in))]
+#[tactic(auto, unfolding(clc_types::specs::InternalWalks::counted_in))]
 fn counted(at: &mut u32, before: usize, tokens: u32) -> Result<(), TypeFault>
     ensures { Walks (counted_in before tokens at.old) result at.new }
 {
     if before == MOST_PARAMS {
         return Err(TypeFault::Rule {
-            rule: 14,
+            rule: TypeRule::S14,
             token: *at,
         });
     }
@@ -94,7 +91,7 @@ fn further(alloc: Global, state: &mut State, rest: &[ParamStep]) -> Result<(), T
     Ok(())
 }
 
-#[tactic(auto, unfolding(clc_types::specs::Walks::params_in))]
+#[tactic(auto, unfolding(clc_types::specs::InternalWalks::params_in))]
 fn parameters(alloc: Global, state: &mut State, params: &Option<Params>) -> Result<(), TypeFault>
     ensures { Stands (params_in params.now (view_of state.old)) result state.new }
 {
@@ -160,13 +157,9 @@ fn count_params(params: &Option<Params>) -> u32
 
 /// The height of a function that reaches so high.
 fn above(reach: u32) -> u32
-    ensures { result ≡ min (suc reach) 17 }
+    ensures { result ≡ number_of (suc reach) }
 {
-    if reach < MOST_HEIGHT {
-        reach + 1
-    } else {
-        MOST_HEIGHT
-    }
+    reach.saturating_add(1)
 }
 
 fn signature(alloc: Global, f: &Function) -> Result<Signature, TypeFault>
@@ -179,22 +172,22 @@ fn signature(alloc: Global, f: &Function) -> Result<Signature, TypeFault>
     })
 }
 
-#[tactic(auto, unfolding(clc_types::specs::Walks::heading_in))]
+#[tactic(auto, unfolding(clc_types::specs::InternalWalks::heading_in))]
 fn heading(state: &mut State, f: &Function) -> Result<(), TypeFault>
     ensures { Stands (heading_in f.now (view_of state.old)) result state.new }
 {
     let token = state.at;
     if named(&state.scope, name_of(&f.name)).is_some() {
-        return Err(TypeFault::Rule { rule: 2, token });
+        return Err(TypeFault::Rule { rule: TypeRule::S2, token });
     }
     if is_kernel(&f.lead) && result_of(&f.returns).is_some() {
-        return Err(TypeFault::Rule { rule: 8, token });
+        return Err(TypeFault::Rule { rule: TypeRule::S8, token });
     }
     skip(&mut state.at, 1);
     Ok(())
 }
 
-#[tactic(auto, unfolding(clc_types::specs::Walks::begun, clc_types::specs::Steps::entered))]
+#[tactic(auto, unfolding(clc_types::specs::InternalWalks::begun, clc_types::specs::InternalSteps::entered))]
 fn begin(alloc: Global, state: &mut State, f: &Function) -> Result<(), TypeFault>
     requires { found (seen state.old.scope.inner) (name_of_token f.now.name) ≡ None }
     ensures { Stands (Goes tt (begun f.now (view_of state.old))) result state.new }
@@ -215,7 +208,7 @@ fn begin(alloc: Global, state: &mut State, f: &Function) -> Result<(), TypeFault
 }
 
 /// Keeps the height of the function whose body has these statements, leaves its block, and gives its variables.
-#[tactic(auto, unfolding(clc_types::specs::Walks::ended))]
+#[tactic(auto, unfolding(clc_types::specs::InternalWalks::ended))]
 fn close(alloc: Global, state: &mut State, list: &[TStmt]) -> Result<Items<Var>, TypeFault>
     ensures { Stands (Goes (view_of state.old).vars (ended (TStmt.Block list.now) (view_of state.old))) result state.new }
 {
@@ -259,7 +252,7 @@ fn finish(
     typed(alloc, f, vars, list)
 }
 
-#[tactic(auto, using(crate::proofs::Heads::heading_free), unfolding(clc_types::specs::Walks::function_walk))]
+#[tactic(auto, using(crate::proofs::Heads::heading_free), unfolding(clc_types::specs::InternalWalks::function_walk))]
 fn function(alloc: Global, state: &mut State, f: &Function) -> Result<TFunction, TypeFault>
     ensures { Stands (function_walk f.now (view_of state.old)) result state.new }
 {

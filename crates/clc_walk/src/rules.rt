@@ -1,17 +1,17 @@
 //! The typing rules, by the types of operands and their places. Each test gives its first violated rule.
 
 ghost use Rattle.std.specs.Prelude.{◌≡◌, ◌++◌, Some};
-ghost use Rattle.clc_types.specs.Answers.{first as first_of};
+ghost use Rattle.clc_types.specs.InternalAnswers.{first as first_of};
 ghost use Rattle.clc_types.specs.Rules.{is_scalar as is_scalar_kind, matches as matches_of, kind_of as kind_of_shape, place_if as place_if_fixed, place_of as place_of_shape, is_locked as is_locked_space, var_of as var_of_shape, ty_of as ty_of_kind, scalar_needed as scalar_needed_of, indexed_needed as indexed_needed_of, pointer_needed as pointer_needed_of, no_array as no_array_of, fit_needed as fit_needed_of, step_needs as step_needs_of, index_needs as index_needs_of, operands_needed as operands_needed_of, operator_needs as operator_needs_of, common as common_of, promoted as promoted_of, scalar_of as scalar_of_kind, result_of as result_of_operator, operator_of as operator_of_mark, prefix_kind as prefix_kind_of, element_kind as element_kind_of, element_place as element_place_of, conditional_needs as conditional_needs_of, assigned_needed as assigned_needed_of, value_needed as value_needed_of, takes_pointer as takes_pointer_mark, assign_needs as assign_needs_of, return_needs as return_needs_of, bare_needs as bare_needs_of, is_size as is_size_number, sum_kind as sum_kind_of};
 
 use clc_lexer::Mark;
-use clc_types::{Fault, Form, Kind, Place, Shape, Sofar, Space, Ty, Var};
+use clc_types::{Fault, Form, Kind, Place, Shape, Sofar, Space, Ty, TypeRule, Var};
 use q_lane::Scalar;
 
 /// The most elements of an array.
 const MOST_ELEMENTS: u32 = 1024;
 
-fn fault(token: u32, rule: u8) -> Option<Fault>
+fn fault(token: u32, rule: TypeRule) -> Option<Fault>
     ensures { result ≡ Some (record { token = token; rule = rule }) }
 {
     Some(Fault { token, rule })
@@ -136,9 +136,9 @@ pub fn scalar_needed(p: u32, kind: Kind) -> Option<Fault>
     ensures { result ≡ first_of (scalar_needed_of p kind) }
 {
     match kind {
-        Kind::Void => fault(p, 3),
+        Kind::Void => fault(p, TypeRule::S3),
         Kind::Value(_) => None,
-        Kind::Pointer { .. } | Kind::Array { .. } => fault(p, 12),
+        Kind::Pointer { .. } | Kind::Array { .. } => fault(p, TypeRule::S12),
     }
 }
 
@@ -146,8 +146,8 @@ fn indexed_needed(p: u32, kind: Kind) -> Option<Fault>
     ensures { result ≡ first_of (indexed_needed_of p kind) }
 {
     match kind {
-        Kind::Void => fault(p, 3),
-        Kind::Value(_) => fault(p, 12),
+        Kind::Void => fault(p, TypeRule::S3),
+        Kind::Value(_) => fault(p, TypeRule::S12),
         Kind::Pointer { .. } | Kind::Array { .. } => None,
     }
 }
@@ -157,8 +157,8 @@ pub fn pointer_needed(p: u32, kind: Kind) -> Option<Fault>
     ensures { result ≡ first_of (pointer_needed_of p kind) }
 {
     match kind {
-        Kind::Void => fault(p, 3),
-        Kind::Value(_) | Kind::Array { .. } => fault(p, 12),
+        Kind::Void => fault(p, TypeRule::S3),
+        Kind::Value(_) | Kind::Array { .. } => fault(p, TypeRule::S12),
         Kind::Pointer { .. } => None,
     }
 }
@@ -168,7 +168,7 @@ pub fn no_array(p: u32, kind: Kind) -> Option<Fault>
     ensures { result ≡ first_of (no_array_of p kind) }
 {
     match kind {
-        Kind::Array { .. } => fault(p, 12),
+        Kind::Array { .. } => fault(p, TypeRule::S12),
         _ => None,
     }
 }
@@ -178,12 +178,12 @@ pub fn fit_needed(place: Kind, q: u32, kind: Kind) -> Option<Fault>
     ensures { result ≡ first_of (fit_needed_of place q kind) }
 {
     match kind {
-        Kind::Void => fault(q, 3),
+        Kind::Void => fault(q, TypeRule::S3),
         _ => {
             if matches(place, kind) {
                 None
             } else {
-                fault(q, 12)
+                fault(q, TypeRule::S12)
             }
         }
     }
@@ -194,10 +194,10 @@ pub fn step_needs(p: u32, x: &Form) -> Option<Fault>
     ensures { result ≡ first_of (step_needs_of p x.now) }
 {
     match (x.kind, x.place) {
-        (Kind::Void, _) => fault(p, 3),
-        (_, Place::Nowhere) => fault(p, 4),
-        (_, Place::Constant) => fault(p, 5),
-        (Kind::Array { .. }, _) => fault(p, 12),
+        (Kind::Void, _) => fault(p, TypeRule::S3),
+        (_, Place::Nowhere) => fault(p, TypeRule::S4),
+        (_, Place::Constant) => fault(p, TypeRule::S5),
+        (Kind::Array { .. }, _) => fault(p, TypeRule::S12),
         _ => None,
     }
 }
@@ -216,13 +216,13 @@ fn operands_needed(mark: Mark, p: u32, a: Kind, q: u32, b: Kind) -> Option<Fault
     ensures { result ≡ first_of (operands_needed_of mark p a q b) }
 {
     match (mark, a, b) {
-        (Mark::Comma, Kind::Array { .. }, _) => fault(p, 12),
-        (Mark::Comma, _, Kind::Array { .. }) => fault(q, 12),
+        (Mark::Comma, Kind::Array { .. }, _) => fault(p, TypeRule::S12),
+        (Mark::Comma, _, Kind::Array { .. }) => fault(q, TypeRule::S12),
         (Mark::Comma, _, _) => None,
-        (_, Kind::Void, _) => fault(p, 3),
-        (_, Kind::Array { .. }, _) => fault(p, 12),
+        (_, Kind::Void, _) => fault(p, TypeRule::S3),
+        (_, Kind::Array { .. }, _) => fault(p, TypeRule::S12),
         (Mark::Plus | Mark::Minus, Kind::Pointer { .. }, _) => scalar_needed(q, b),
-        (_, Kind::Pointer { .. }, _) => fault(p, 12),
+        (_, Kind::Pointer { .. }, _) => fault(p, TypeRule::S12),
         (Mark::Plus, Kind::Value(_), Kind::Pointer { .. }) => None,
         (_, Kind::Value(_), _) => scalar_needed(q, b),
     }
@@ -345,11 +345,11 @@ fn assigned_needed(mark: Mark, p: u32, kind: Kind, place: Place) -> Option<Fault
     ensures { result ≡ first_of (assigned_needed_of mark p kind place) }
 {
     match (kind, place) {
-        (Kind::Void, _) => fault(p, 3),
-        (_, Place::Nowhere) => fault(p, 4),
-        (_, Place::Constant) => fault(p, 5),
-        (Kind::Array { .. }, _) => fault(p, 12),
-        (Kind::Pointer { .. }, _) if !takes_pointer(mark) => fault(p, 12),
+        (Kind::Void, _) => fault(p, TypeRule::S3),
+        (_, Place::Nowhere) => fault(p, TypeRule::S4),
+        (_, Place::Constant) => fault(p, TypeRule::S5),
+        (Kind::Array { .. }, _) => fault(p, TypeRule::S12),
+        (Kind::Pointer { .. }, _) if !takes_pointer(mark) => fault(p, TypeRule::S12),
         _ => None,
     }
 }
@@ -379,7 +379,7 @@ pub fn return_needs(gives: Option<Scalar>, p: u32, kind: Kind) -> Option<Fault>
 {
     match (gives, kind) {
         (Some(_), Kind::Value(_)) => None,
-        _ => fault(p, 13),
+        _ => fault(p, TypeRule::S13),
     }
 }
 
@@ -389,7 +389,7 @@ pub fn bare_needs(gives: Option<Scalar>, p: u32) -> Option<Fault>
 {
     match gives {
         None => None,
-        Some(_) => fault(p, 13),
+        Some(_) => fault(p, TypeRule::S13),
     }
 }
 

@@ -1,7 +1,7 @@
 //! What a name stands for in the open blocks.
 
 ghost use Rattle.std.specs.Prelude.{◌≡◌, map};
-ghost use Rattle.clc_types.specs.Scope.{seen, found, known, entries_of, look_in};
+ghost use Rattle.clc_types.specs.InternalScope.{seen, found, known, entries_of, look_in};
 
 use clc_types::{Builtin, Named, Scope};
 use indexmap::IndexMap;

@@ -1,10 +1,10 @@
 //! Steps of the walk that every statement shares.
 
 ghost use Rattle.std.specs.Prelude.{◌≡◌, ◌+◌, [], ◌∷◌, ◌++◌};
-ghost use Rattle.clc_types.specs.Scope.{knows};
-ghost use Rattle.clc_types.specs.Walk.{walk_expr, walk_assign};
-ghost use Rattle.clc_types.specs.Answers.{Gives, unit_is};
-ghost use Rattle.clc_types.specs.Steps.{number as number_of, Reaches, Entered, view_of, skipped, left};
+ghost use Rattle.clc_types.specs.InternalScope.{knows};
+ghost use Rattle.clc_types.specs.InternalWalk.{walk_expr, walk_assign};
+ghost use Rattle.clc_types.specs.InternalAnswers.{Gives, unit_is};
+ghost use Rattle.clc_types.specs.InternalSteps.{number as number_of, Reaches, Entered, view_of, skipped, left};
 
 use crate::expressions::{assign, expr, memory, skip};
 use clc_tree::{Assign, Expr};
@@ -14,7 +14,7 @@ use sqlite_items::Items;
 use std::alloc::{AllocError, Global};
 
 /// Counts n tokens.
-#[tactic(auto, unfolding(clc_types::specs::Steps::skipped))]
+#[tactic(auto, unfolding(clc_types::specs::InternalSteps::skipped))]
 pub fn pass(state: &mut State, n: u32)
     ensures { view_of state.new ≡ skipped n (view_of state.old) }
 {
@@ -22,7 +22,7 @@ pub fn pass(state: &mut State, n: u32)
 }
 
 /// Opens a block.
-#[tactic(auto, unfolding(clc_types::specs::Steps::entered))]
+#[tactic(auto, unfolding(clc_types::specs::InternalSteps::entered))]
 pub fn enter(alloc: Global, state: &mut State) -> Result<(), TypeFault>
     ensures { Entered result (view_of state.old) state.new }
 {

@@ -1,10 +1,10 @@
 //! The walk over statements.
 
 ghost use Rattle.std.specs.Prelude.{◌≡◌, ℕ, ◌+◌, [], ◌∷◌, ◌++◌, drop, map, is_some};
-ghost use Rattle.clc_types.specs.Scope.{knows};
-ghost use Rattle.clc_types.specs.Walk.{walk_expr, walk_assign, guarded, Right, bump};
-ghost use Rattle.clc_types.specs.Answers.{Walks, Gives, unit_is};
-ghost use Rattle.clc_types.specs.Steps.{Stands, Reaches, view_of, looping, jump_in, returned_in, condition_in, value_in, init_in, maybe_condition as maybe_condition_walk, maybe_value as maybe_value_walk, for_start_walk, listed, walk_block, walk_block_part, walk_stmt, walk_if, walk_while, walk_do, walk_for, maybe_else, condition_end as condition_end_of, value_end as value_end_of, fit_end as fit_end_of, return_end as return_end_of, bare_return as bare_return_of};
+ghost use Rattle.clc_types.specs.InternalScope.{knows};
+ghost use Rattle.clc_types.specs.InternalWalk.{walk_expr, walk_assign, guarded, Right, bump};
+ghost use Rattle.clc_types.specs.InternalAnswers.{Walks, Gives, unit_is};
+ghost use Rattle.clc_types.specs.InternalSteps.{Stands, Reaches, view_of, looping, jump_in, returned_in, condition_in, value_in, init_in, maybe_condition as maybe_condition_walk, maybe_value as maybe_value_walk, for_start_walk, listed, walk_block, walk_block_part, walk_stmt, walk_if, walk_while, walk_do, walk_for, maybe_else, condition_end as condition_end_of, value_end as value_end_of, fit_end as fit_end_of, return_end as return_end_of, bare_return as bare_return_of};
 ghost use Rattle.std.specs.Prelude.{Bool, not, true};
 ghost use Rattle.clc_types.specs.Judged.{violations};
 
@@ -13,12 +13,12 @@ use crate::expressions::{broken, expr, memory, skip};
 use crate::rules::{bare_needs, no_array, return_needs, scalar_needed};
 use crate::state::{enter, form, leave, pass, push};
 use clc_tree::{Block, BlockPart, Do, Else, Expr, For, ForStart, If, Stmt, While};
-use clc_types::{Form, State, TExpr, TStmt, TypeFault};
+use clc_types::{Form, State, TExpr, TStmt, TypeFault, TypeRule};
 use q_lane::Scalar;
 use sqlite_items::{Boxed, Items};
 use std::alloc::{AllocError, Global};
 
-#[tactic(auto, using(crate::proofs::Steps::guarded_stops, crate::proofs::Steps::guarded_goes), unfolding(clc_types::specs::Steps::condition_end))]
+#[tactic(auto, using(crate::proofs::Steps::guarded_stops, crate::proofs::Steps::guarded_goes), unfolding(clc_types::specs::InternalSteps::condition_end))]
 fn condition_end(at: &u32, p: u32, x: Form) -> Result<TExpr, TypeFault>
     ensures { Walks (condition_end_of p x at.now) result at.now }
 {
@@ -29,7 +29,7 @@ fn condition_end(at: &u32, p: u32, x: Form) -> Result<TExpr, TypeFault>
     Ok(expr)
 }
 
-#[tactic(auto, using(crate::proofs::Steps::guarded_stops, crate::proofs::Steps::guarded_goes), unfolding(clc_types::specs::Steps::value_end))]
+#[tactic(auto, using(crate::proofs::Steps::guarded_stops, crate::proofs::Steps::guarded_goes), unfolding(clc_types::specs::InternalSteps::value_end))]
 fn value_end(at: &u32, p: u32, x: Form) -> Result<TExpr, TypeFault>
     ensures { Walks (value_end_of p x at.now) result at.now }
 {
@@ -41,7 +41,7 @@ fn value_end(at: &u32, p: u32, x: Form) -> Result<TExpr, TypeFault>
 }
 
 /// An expression where a number is needed.
-#[tactic(auto, unfolding(clc_types::specs::Steps::condition_in))]
+#[tactic(auto, unfolding(clc_types::specs::InternalSteps::condition_in))]
 fn condition(alloc: Global, state: &mut State, e: &Expr) -> Result<TExpr, TypeFault>
     ensures { Stands (condition_in e.now (view_of state.old)) result state.new }
 {
@@ -51,7 +51,7 @@ fn condition(alloc: Global, state: &mut State, e: &Expr) -> Result<TExpr, TypeFa
 }
 
 /// An expression where no value is needed.
-#[tactic(auto, unfolding(clc_types::specs::Steps::value_in))]
+#[tactic(auto, unfolding(clc_types::specs::InternalSteps::value_in))]
 fn value(alloc: Global, state: &mut State, e: &Expr) -> Result<TExpr, TypeFault>
     ensures { Stands (value_in e.now (view_of state.old)) result state.new }
 {
@@ -86,7 +86,7 @@ fn maybe_value(
     }
 }
 
-#[tactic(auto, using(crate::proofs::Steps::guarded_stops, crate::proofs::Steps::guarded_goes), unfolding(clc_types::specs::Steps::return_end))]
+#[tactic(auto, using(crate::proofs::Steps::guarded_stops, crate::proofs::Steps::guarded_goes), unfolding(clc_types::specs::InternalSteps::return_end))]
 fn return_end(at: &mut u32, p: u32, gives: Option<Scalar>, x: Form) -> Result<TStmt, TypeFault>
     ensures { Walks (return_end_of p gives x at.old) result at.new }
 {
@@ -98,7 +98,7 @@ fn return_end(at: &mut u32, p: u32, gives: Option<Scalar>, x: Form) -> Result<TS
     Ok(TStmt::Return(Some(expr)))
 }
 
-#[tactic(auto, using(crate::proofs::Steps::guarded_stops, crate::proofs::Steps::guarded_goes), unfolding(clc_types::specs::Steps::bare_return))]
+#[tactic(auto, using(crate::proofs::Steps::guarded_stops, crate::proofs::Steps::guarded_goes), unfolding(clc_types::specs::InternalSteps::bare_return))]
 fn bare_return(at: &mut u32, gives: Option<Scalar>) -> Result<TStmt, TypeFault>
     ensures { Walks (bare_return_of at.old gives) result at.new }
 {
@@ -109,7 +109,7 @@ fn bare_return(at: &mut u32, gives: Option<Scalar>) -> Result<TStmt, TypeFault>
     Ok(TStmt::Return(None))
 }
 
-#[tactic(auto, unfolding(clc_types::specs::Steps::returned_in))]
+#[tactic(auto, unfolding(clc_types::specs::InternalSteps::returned_in))]
 fn returned(alloc: Global, state: &mut State, value: &Option<Expr>) -> Result<TStmt, TypeFault>
     ensures { Stands (returned_in value.now (view_of state.old)) result state.new }
 {
@@ -127,11 +127,11 @@ fn returned(alloc: Global, state: &mut State, value: &Option<Expr>) -> Result<TS
 
 /// Whether a loop stands around a `break` or a `continue`.
 fn jump(state: &mut State, looped: bool) -> Result<(), TypeFault>
-    ensures { Reaches (guarded (violations state.old.at ((10, not looped) ∷ [])) (Right tt (bump state.old.at 2))) result state.old state.new }
+    ensures { Reaches (guarded (violations state.old.at ((TypeRule.S10, not looped) ∷ [])) (Right tt (bump state.old.at 2))) result state.old state.new }
 {
     if !looped {
         return Err(TypeFault::Rule {
-            rule: 10,
+            rule: TypeRule::S10,
             token: state.at,
         });
     }
@@ -139,7 +139,7 @@ fn jump(state: &mut State, looped: bool) -> Result<(), TypeFault>
     Ok(())
 }
 
-#[tactic(auto, unfolding(clc_types::specs::Steps::jump_in))]
+#[tactic(auto, unfolding(clc_types::specs::InternalSteps::jump_in))]
 fn break_out(state: &mut State, looped: bool) -> Result<TStmt, TypeFault>
     ensures { Stands (jump_in TStmt.Break looped (view_of state.old)) result state.new }
 {
@@ -147,7 +147,7 @@ fn break_out(state: &mut State, looped: bool) -> Result<TStmt, TypeFault>
     Ok(TStmt::Break)
 }
 
-#[tactic(auto, unfolding(clc_types::specs::Steps::jump_in))]
+#[tactic(auto, unfolding(clc_types::specs::InternalSteps::jump_in))]
 fn continue_on(state: &mut State, looped: bool) -> Result<TStmt, TypeFault>
     ensures { Stands (jump_in TStmt.Continue looped (view_of state.old)) result state.new }
 {

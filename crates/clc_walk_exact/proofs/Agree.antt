@@ -4,8 +4,8 @@ use Rattle.clc_types.specs.declared.forms.Fault.{Fault}
 use Rattle.clc_types.specs.declared.forms.Named.{Named}
 use Rattle.clc_types.specs.declared.forms.Home.{Home}
 use Rattle.clc_types.specs.Judged.{Judged, Fine, Faulty, both, next, unless, faults_of, Part, IsLeast, Context, none, one, two}
-use Rattle.clc_types.specs.Scope.{Known}
-use Rattle.clc_types.specs.Walk.{Walked, Right, Wrong, Walk, after, guarded, bump}
+use Rattle.clc_types.specs.InternalScope.{Known}
+use Rattle.clc_types.specs.InternalWalk.{Walked, Right, Wrong, Walk, after, guarded, bump}
 use Rattle.clc_walk_exact.proofs.Least.{Inside, Same, inside_none, wider, guard_same, after_assoc, next_same, two_same, inside_unless, inside_next, inside_both, both_fine, next_fine}
 use Rattle.clc_walk_exact.proofs.Needs.{Sound, sound_none}
 

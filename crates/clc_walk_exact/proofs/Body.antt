@@ -16,7 +16,7 @@ use Rattle.clc_tree.specs.declared.expressions.Expr.{Expr}
 use Rattle.clc_types.specs.declared.typed.TStmt.{TStmt}
 use Rattle.clc_types.specs.declared.forms.Home.{Home}
 use Rattle.clc_types.specs.Blocks.{Decl, Piece, block, block_part_piece, stmt_piece, block_piece, do_piece, else_piece, for_piece, if_piece, while_piece}
-use Rattle.clc_types.specs.Steps.{PieceWalk, block_part_walk, walk_block_part, stmt_walk, walk_stmt, block_walk, walk_block, do_walk, walk_do, else_walk, walk_else, for_walk, walk_for, if_walk, walk_if, while_walk, walk_while}
+use Rattle.clc_types.specs.InternalSteps.{PieceWalk, block_part_walk, walk_block_part, stmt_walk, walk_stmt, block_walk, walk_block, do_walk, walk_do, else_walk, walk_else, for_walk, walk_for, if_walk, walk_if, while_walk, walk_while}
 use Rattle.clc_walk_exact.proofs.Pieces.{Stood, Stoods, StoodOption, past_stood, made_stood}
 use Rattle.clc_walk_exact.proofs.Standing.{declare_stood, block_stmt_stood, eval_stood, empty_stood, break_stood, continue_stood, returned_stood, if_stood, while_stood, do_stood, for_stood, block_stood}
 

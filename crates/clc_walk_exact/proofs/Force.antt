@@ -6,7 +6,7 @@ use Rattle.clc_types.specs.declared.forms.Shape.{Shape}
 use Rattle.clc_types.specs.declared.forms.Named.{Named}
 use Rattle.clc_types.specs.declared.forms.Named.TheVariants as nm
 use Rattle.clc_types.specs.Names.{or_else}
-use Rattle.clc_types.specs.Scope.{Entries, found, known}
+use Rattle.clc_types.specs.InternalScope.{Entries, found, known}
 use Rattle.clc_types.specs.Blocks.{Decl, is_visible, last_visible, is_again, earlier}
 use Rattle.clc_types.proofs.Scopes.{or_none}
 

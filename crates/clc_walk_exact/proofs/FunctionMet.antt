@@ -27,12 +27,12 @@ use Rattle.clc_types.specs.Words.{name_of, one_if, is_kernel, type_tokens}
 use Rattle.clc_types.specs.Rules.{var_of}
 use Rattle.clc_types.specs.Heights.{stmt_reach}
 use Rattle.clc_types.specs.Names.{or_else, outermost, function_of, builtin_named, builtin_of}
-use Rattle.clc_types.specs.Scope.{Entries, found, known, look_in}
+use Rattle.clc_types.specs.InternalScope.{Entries, found, known, look_in}
 use Rattle.clc_types.specs.Blocks.{Decl, Around, Piece, last_visible, nothing, quiet, past, ending, seq, made, declared, pointer_tokens, block}
 use Rattle.clc_types.specs.Programs.{Before, in_force, param_shape, param_tokens, param_name, counted, param_piece, further_params, params_piece, shapes_of, result_of, returns_tokens, heading, head, inside, function_piece, signature, home_of, function_at, height_in, with_function, functions_at, no_function, program, Judges}
-use Rattle.clc_types.specs.Walk.{Walked, Right, Wrong, guarded, bump}
-use Rattle.clc_types.specs.Steps.{View, Stepped, Goes, Stops, and_then, reach, PieceWalk, knows_in, number, skipped, left, declared_in, walk_block, nothing as walk_nothing, past as walk_past, ending as walk_ending, seq as walk_seq, made as walk_made, declared as walk_declared, Stands, view_of}
-use Rattle.clc_types.specs.Walks.{counted_in, param_walk, further_walk, params_in, heading_in, begun, function_in, ended, function_walk, functions_walk}
+use Rattle.clc_types.specs.InternalWalk.{Walked, Right, Wrong, guarded, bump}
+use Rattle.clc_types.specs.InternalSteps.{View, Stepped, Goes, Stops, and_then, reach, PieceWalk, knows_in, number, skipped, left, declared_in, walk_block, nothing as walk_nothing, past as walk_past, ending as walk_ending, seq as walk_seq, made as walk_made, declared as walk_declared, Stands, view_of}
+use Rattle.clc_types.specs.InternalWalks.{counted_in, param_walk, further_walk, params_in, heading_in, begun, function_in, ended, function_walk, functions_walk}
 use Rattle.clc_types.proofs.Scopes.{known_last}
 use Rattle.clc_walk_exact.proofs.Least.{Inside, Same, inside_none, wider, inside_unless, inside_next, inside_both, guard_same, least_left}
 use Rattle.clc_walk_exact.proofs.Needs.{sound_2}
@@ -42,6 +42,7 @@ use Rattle.clc_walk_exact.proofs.Pieces.{Stood, Met, at_token, reach_met, met_ne
 use Rattle.clc_walk_exact.proofs.Standing.{tested_fair}
 use Rattle.clc_walk_exact.proofs.Body.{whole_block}
 use Rattle.clc_walk_exact.proofs.Parameters.{inside_walk, inside_stood}
+use Rattle.clc_walk_exact.proofs.Reaches.{stmt_low, greatest_last}
 use Rattle.clc_walk_exact.proofs.Headings.{met_head, met_known, Ready, entry_names, head_tokens, heading_inside, heading_met}
 use Rattle.clc_walk_exact.proofs.Openings.{begun_rel, params_fit}
 use Rattle.clc_walk_exact.proofs.Functions.{inside_end}
@@ -96,14 +97,20 @@ function_met before p f v r fit =
     let few = r.few in
     let counts = r.counts in
     let pos : 0 < s.tokens = omega arith in
+    let low = r.low in
+    let most = stmt_low before.heights (st.Block body) in
+    let fits : number (suc (stmt_reach before.heights (st.Block body))) ≡ suc (stmt_reach before.heights (st.Block body)) = omega (arith, most, low, counts, few, pos, fit) in
+    let high : suc (stmt_reach before.heights (st.Block body)) ≡ height_in before.heights (function_at before p f) = ap (height_in before.heights) (sym whole) in
+    let longer = length-append before.heights (height_in before.heights (function_at before p f) ∷ []) in
     let n : number (length v.home.heights) ≡ length before.names = ap (λ hs. number (length hs)) r.heights ∙ ap number counts ∙ (let z : number (length before.names) ≡ length before.names = omega (arith, few, fit) in z) in (
       ef,
       record {
-        outer = ap (λ o. Rattle.clc_types.specs.Steps.front o) outer;
-        names = λ x. ap (λ o. found (Rattle.clc_types.specs.Steps.last_of o y.inner) x) outer ∙ entry_names before v.inner (number (length v.home.heights)) (name_of f.name) x r.names n;
+        outer = ap (λ o. Rattle.clc_types.specs.InternalSteps.front o) outer;
+        names = λ x. ap (λ o. found (Rattle.clc_types.specs.InternalSteps.last_of o y.inner) x) outer ∙ entry_names before v.inner (number (length v.home.heights)) (name_of f.name) x r.names n;
         functions = ap (λ h. h.functions) within;
-        heights = ap (λ h. h.heights ++ min (suc (stmt_reach h.heights (st.Block body))) 17 ∷ []) within ∙ ap (λ z. before.heights ++ height_in before.heights z ∷ []) (sym whole);
-        counts = length-append before.heights (height_in before.heights (function_at before p f) ∷ []) ∙ ap (λ z. z + 1) counts ∙ sym (length-append before.names (name_of f.name ∷ []));
+        heights = ap (λ h. h.heights ++ number (suc (stmt_reach h.heights (st.Block body))) ∷ []) within ∙ ap (λ n. before.heights ++ n ∷ []) (fits ∙ high);
+        counts = longer ∙ ap (λ z. z + 1) counts ∙ sym (length-append before.names (name_of f.name ∷ []));
+        low = greatest_last before.heights (height_in before.heights (function_at before p f)) _ (omega (arith, low, longer)) (omega (arith, low, longer, most, high));
         few = let l = length-append before.names (name_of f.name ∷ []) in omega (arith, l, few, pos);
         at = d.at ∙ eh;
       },

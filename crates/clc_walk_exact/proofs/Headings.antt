@@ -11,6 +11,8 @@ use Rattle.clc_tree.specs.declared.functions.Function.{Function}
 use Rattle.clc_tree.specs.declared.functions.Tree.{Tree}
 use Rattle.clc_tree.specs.declared.expressions.Scalar.{Scalar as Written}
 use Rattle.clc_tree.specs.declared.expressions.Scalar.TheVariants as written
+use Rattle.clc_types.specs.declared.type_rule.TypeRule.{TypeRule}
+use Rattle.clc_types.specs.declared.type_rule.TypeRule.TheVariants.{S2, S8}
 use Rattle.clc_types.specs.declared.typed.TStmt.{TStmt}
 use Rattle.clc_types.specs.declared.typed.TStmt.TheVariants as st
 use Rattle.clc_types.specs.declared.typed.TFunction.{TFunction}
@@ -25,14 +27,14 @@ use Rattle.clc_types.specs.declared.typed.Typed.{Typed}
 use Rattle.clc_types.specs.Judged.{Judged, Fine, Faulty, both, next, unless, violations, faults_of, Context, Part, IsLeast}
 use Rattle.clc_types.specs.Words.{name_of, one_if, is_kernel, type_tokens}
 use Rattle.clc_types.specs.Rules.{var_of}
-use Rattle.clc_types.specs.Heights.{stmt_reach}
+use Rattle.clc_types.specs.Heights.{greatest, stmt_reach}
 use Rattle.clc_types.specs.Names.{or_else, outermost, function_of, builtin_named, builtin_of}
-use Rattle.clc_types.specs.Scope.{Entries, found, known, look_in}
+use Rattle.clc_types.specs.InternalScope.{Entries, found, known, look_in}
 use Rattle.clc_types.specs.Blocks.{Decl, Around, Piece, last_visible, nothing, quiet, past, ending, seq, made, declared, pointer_tokens, block}
 use Rattle.clc_types.specs.Programs.{Before, in_force, param_shape, param_tokens, param_name, counted, param_piece, further_params, params_piece, shapes_of, result_of, returns_tokens, heading, head, inside, function_piece, signature, home_of, function_at, height_in, with_function, functions_at, no_function, program, Judges}
-use Rattle.clc_types.specs.Walk.{Walked, Right, Wrong, guarded, bump}
-use Rattle.clc_types.specs.Steps.{View, Stepped, Goes, Stops, and_then, reach, PieceWalk, knows_in, number, skipped, left, declared_in, walk_block, nothing as walk_nothing, past as walk_past, ending as walk_ending, seq as walk_seq, made as walk_made, declared as walk_declared, Stands, view_of}
-use Rattle.clc_types.specs.Walks.{counted_in, param_walk, further_walk, params_in, heading_in, begun, function_in, ended, function_walk, functions_walk}
+use Rattle.clc_types.specs.InternalWalk.{Walked, Right, Wrong, guarded, bump}
+use Rattle.clc_types.specs.InternalSteps.{View, Stepped, Goes, Stops, and_then, reach, PieceWalk, knows_in, number, skipped, left, declared_in, walk_block, nothing as walk_nothing, past as walk_past, ending as walk_ending, seq as walk_seq, made as walk_made, declared as walk_declared, Stands, view_of}
+use Rattle.clc_types.specs.InternalWalks.{counted_in, param_walk, further_walk, params_in, heading_in, begun, function_in, ended, function_walk, functions_walk}
 use Rattle.clc_types.proofs.Scopes.{known_last}
 use Rattle.clc_walk_exact.proofs.Least.{Inside, Same, inside_none, wider, inside_unless, inside_next, inside_both, guard_same, least_left}
 use Rattle.clc_walk_exact.proofs.Needs.{sound_2}
@@ -73,6 +75,7 @@ pub record Ready (before : Before) (p : ℕ) (v : View) : Type 0 where
   pub functions : v.home.functions ≡ before.signatures
   pub heights : v.home.heights ≡ before.heights
   pub counts : length before.heights ≡ length before.names
+  pub low : greatest before.heights ≤ length before.heights
   pub few : length before.names ≤ p
   pub at : v.at ≡ p
 
@@ -102,13 +105,13 @@ abbrev pub head_tokens : Function → ℕ
 head_tokens f = one_if f.lead + returns_tokens f.returns
 
 -- the tests of the heading
-abbrev head_tests : List (List ℕ) → Function → List (ℕ × Bool)
-head_tests fs f = (2, is_some (outermost fs (name_of f.name))) ∷ (8, is_kernel f.lead && is_some (result_of f.returns)) ∷ []
+abbrev head_tests : List (List ℕ) → Function → List (TypeRule × Bool)
+head_tests fs f = (S2, is_some (outermost fs (name_of f.name))) ∷ (S8, is_kernel f.lead && is_some (result_of f.returns)) ∷ []
 
 pub heading_inside : (c : Around) (fs : List (List ℕ)) (f : Function) (l : Bool) (from p : ℕ) → Inside p (p + (head_tokens f + 1)) (faults_of ((head fs f).at c l from p))
 heading_inside c fs f l from p =
     let q = p + head_tokens f in
-    wider q (q + 1) p (p + (head_tokens f + 1)) _ (omega arith) (omega arith) (inside_unless q (q + 1) _ tt (sound_2 q 2 8 _ _ (omega arith)).inside)
+    wider q (q + 1) p (p + (head_tokens f + 1)) _ (omega arith) (omega arith) (inside_unless q (q + 1) _ tt (sound_2 q S2 S8 _ _ (omega arith)).inside)
 
 pub heading_met : (before : Before) (p : ℕ) (f : Function) (v : View) (c : Around) → Ready before p v → p + (head_tokens f + 1) < 2 ^ 32
     → Met ((head before.names f).at c false p p) (heading_in f (skipped (head_tokens f) v)) (λ u. u ≡ at_token v (p + (head_tokens f + 1)))
@@ -123,11 +126,11 @@ heading_met before p f v c r fit =
     let look : (knows_in vq).look x ≡ outermost before.names x
     = ap (λ o. or_else o (builtin_named (builtin_of x))) (ap (λ o. known (o ++ v.inner ∷ []) x) r.outer ∙ known_last [] v.inner x ∙ none_right (found v.inner x) ∙ r.names x) in
     let J = unless (violations q (head_tests before.names f)) tt in
-    let W : Option Named → Stepped (Unit {0}) = λ o. reach vq (guarded (violations q ((2, is_some o) ∷ (8, is_kernel f.lead && is_some (result_of f.returns)) ∷ [])) (Right tt (bump q 1))) in
+    let W : Option Named → Stepped (Unit {0}) = λ o. reach vq (guarded (violations q ((S2, is_some o) ∷ (S8, is_kernel f.lead && is_some (result_of f.returns)) ∷ [])) (Right tt (bump q 1))) in
     subst (λ z. Met J (heading_in f z) (λ u. u ≡ at_token v hi)) (sym e)
     (subst (λ o. Met J (W o) (λ u. u ≡ at_token v hi)) (sym look)
     (reach_met vq hi J (guarded (violations q (head_tests before.names f)) (Right tt (bump q 1)))
-    (subst (λ z. Same hi J (guarded (violations q (head_tests before.names f)) (Right tt z))) (sym (bump_is q 1 (omega (arith, fit)) ∙ omega arith)) (guard_same hi (violations q (head_tests before.names f)) tt (sound_2 q 2 8 _ _ (omega arith)).sorted))))
+    (subst (λ z. Same hi J (guarded (violations q (head_tests before.names f)) (Right tt z))) (sym (bump_is q 1 (omega (arith, fit)) ∙ omega arith)) (guard_same hi (violations q (head_tests before.names f)) tt (sound_2 q S2 S8 _ _ (omega arith)).sorted))))
   where
     none_right : (o : Option Named) → or_else o None ≡ o
     none_right (Some y) = refl

@@ -1,8 +1,9 @@
 -- Faults of parts that stand one after the other: those of the first come first.
 use Rattle.std.proofs.Common.{◌≡◌, ℕ, suc, ◌+◌, ◌<◌, ◌≤◌, ◌^◌, Bool, true, false, List, [], ◌∷◌, ◌++◌, Option, Some, None, ◌⊎◌, inl, inr, refl, sym, ap, ◌∙◌, subst, arith}
+use Rattle.clc_types.specs.declared.type_rule.TypeRule.{TypeRule}
 use Rattle.clc_types.specs.declared.forms.Fault.{Fault}
-use Rattle.clc_types.specs.Judged.{Judged, Fine, Faulty, both, next, unless, violations, faults_of, Before, Among, IsLeast}
-use Rattle.clc_types.specs.Walk.{Walked, Right, Wrong, after, guarded}
+use Rattle.clc_types.specs.Judged.{Judged, Fine, Faulty, both, next, unless, violations, faults_of, rank, Before, Among, IsLeast}
+use Rattle.clc_types.specs.InternalWalk.{Walked, Right, Wrong, after, guarded}
 
 pub record Inside (lo hi : ℕ) (fs : List Fault) : Type 0 where
   pub all : (g : Fault) → Among g fs → (lo ≤ g.token) × (g.token < hi)
@@ -74,25 +75,25 @@ sorted_append lo mid hi (f ∷ fs) gs a b h i =
     (after_append f fs gs h.0 (after_inside f mid hi gs (a.all f (inl refl)).1 b), sorted_append lo mid hi fs gs (record { all = λ x m. a.all x (inr m) }) b h.1 i)
 
 -- the rules of a list rise
-abbrev pub AllAbove : ℕ → List (ℕ × Bool) → Type 0
+abbrev pub AllAbove : TypeRule → List (TypeRule × Bool) → Type 0
 AllAbove r [] = Unit {0}
-AllAbove r (x ∷ xs) = (r ≤ x.0) × AllAbove r xs
+AllAbove r (x ∷ xs) = (rank r ≤ rank x.0) × AllAbove r xs
 
-abbrev pub Rising : List (ℕ × Bool) → Type 0
+abbrev pub Rising : List (TypeRule × Bool) → Type 0
 Rising [] = Unit {0}
 Rising (x ∷ xs) = AllAbove x.0 xs × Rising xs
 
-above_after : (p r : ℕ) (xs : List (ℕ × Bool)) → AllAbove r xs → AllAfter (record { token = p; rule = r }) (violations p xs)
+above_after : (p : ℕ) (r : TypeRule) (xs : List (TypeRule × Bool)) → AllAbove r xs → AllAfter (record { token = p; rule = r }) (violations p xs)
 above_after p r [] h = tt
 above_after p r ((s, true) ∷ xs) h = (inr (refl, h.0), above_after p r xs h.1)
 above_after p r ((s, false) ∷ xs) h = above_after p r xs h.1
 
-pub sorted_violations : (p : ℕ) (xs : List (ℕ × Bool)) → Rising xs → Sorted (violations p xs)
+pub sorted_violations : (p : ℕ) (xs : List (TypeRule × Bool)) → Rising xs → Sorted (violations p xs)
 sorted_violations p [] h = tt
 sorted_violations p ((r, true) ∷ xs) h = (above_after p r xs h.0, sorted_violations p xs h.1)
 sorted_violations p ((r, false) ∷ xs) h = sorted_violations p xs h.1
 
-pub inside_violations : (p : ℕ) (xs : List (ℕ × Bool)) → Inside p (p + 1) (violations p xs)
+pub inside_violations : (p : ℕ) (xs : List (TypeRule × Bool)) → Inside p (p + 1) (violations p xs)
 inside_violations p [] = inside_none p (p + 1)
 inside_violations p ((r, false) ∷ xs) = inside_violations p xs
 inside_violations p ((r, true) ∷ xs) = one_more (inside_violations p xs)

@@ -8,6 +8,7 @@ pub mod Pieces
 pub mod Standing
 pub mod Body
 pub mod Parameters
+pub mod Reaches
 pub mod Headings
 pub mod Openings
 pub mod Functions

@@ -11,6 +11,7 @@ use Rattle.clc_tree.specs.declared.functions.Function.{Function}
 use Rattle.clc_tree.specs.declared.functions.Tree.{Tree}
 use Rattle.clc_tree.specs.declared.expressions.Scalar.{Scalar as Written}
 use Rattle.clc_tree.specs.declared.expressions.Scalar.TheVariants as written
+use Rattle.clc_types.specs.declared.type_rule.TypeRule.TheVariants.{S14}
 use Rattle.clc_types.specs.declared.typed.TStmt.{TStmt}
 use Rattle.clc_types.specs.declared.typed.TStmt.TheVariants as st
 use Rattle.clc_types.specs.declared.typed.TFunction.{TFunction}
@@ -27,12 +28,12 @@ use Rattle.clc_types.specs.Words.{name_of, one_if, is_kernel, type_tokens}
 use Rattle.clc_types.specs.Rules.{var_of}
 use Rattle.clc_types.specs.Heights.{stmt_reach}
 use Rattle.clc_types.specs.Names.{or_else, outermost, function_of, builtin_named, builtin_of}
-use Rattle.clc_types.specs.Scope.{Entries, found, known, look_in}
+use Rattle.clc_types.specs.InternalScope.{Entries, found, known, look_in}
 use Rattle.clc_types.specs.Blocks.{Decl, Around, Piece, last_visible, nothing, quiet, past, ending, seq, made, declared, pointer_tokens, block}
 use Rattle.clc_types.specs.Programs.{Before, in_force, param_shape, param_tokens, param_name, counted, param_piece, further_params, params_piece, shapes_of, result_of, returns_tokens, heading, head, inside, function_piece, signature, home_of, function_at, height_in, with_function, functions_at, no_function, program, Judges}
-use Rattle.clc_types.specs.Walk.{Walked, Right, Wrong, guarded, bump}
-use Rattle.clc_types.specs.Steps.{View, Stepped, Goes, Stops, and_then, reach, PieceWalk, knows_in, number, skipped, left, declared_in, walk_block, nothing as walk_nothing, past as walk_past, ending as walk_ending, seq as walk_seq, made as walk_made, declared as walk_declared, Stands, view_of}
-use Rattle.clc_types.specs.Walks.{counted_in, param_walk, further_walk, params_in, heading_in, begun, function_in, ended, function_walk, functions_walk}
+use Rattle.clc_types.specs.InternalWalk.{Walked, Right, Wrong, guarded, bump}
+use Rattle.clc_types.specs.InternalSteps.{View, Stepped, Goes, Stops, and_then, reach, PieceWalk, knows_in, number, skipped, left, declared_in, walk_block, nothing as walk_nothing, past as walk_past, ending as walk_ending, seq as walk_seq, made as walk_made, declared as walk_declared, Stands, view_of}
+use Rattle.clc_types.specs.InternalWalks.{counted_in, param_walk, further_walk, params_in, heading_in, begun, function_in, ended, function_walk, functions_walk}
 use Rattle.clc_types.proofs.Scopes.{known_last}
 use Rattle.clc_walk_exact.proofs.Least.{Inside, Same, inside_none, wider, inside_unless, inside_next, inside_both, guard_same, least_left}
 use Rattle.clc_walk_exact.proofs.Needs.{sound_2}
@@ -60,8 +61,8 @@ module _ (fs : List (List ℕ)) (home : Home) (all : List Decl) where
   counted_stood : (n : ℕ) (x : Param) → Stood fs home all (quiet (counted n (param_tokens x))) (λ l v. reach v (counted_in n (param_tokens x) v.at))
   unfolding counted_in
   counted_stood n x =
-      quiet_stood fs home all (counted n (param_tokens x)) (λ k p. guarded (violations p ((14, eqb n 16) ∷ [])) (Right tt (bump p (param_tokens x))))
-      (λ k. tested_fair (in_force all fs) k (param_tokens x) 14 (eqb n 16) tt (param_some x))
+      quiet_stood fs home all (counted n (param_tokens x)) (λ k p. guarded (violations p ((S14, eqb n 16) ∷ [])) (Right tt (bump p (param_tokens x))))
+      (λ k. tested_fair (in_force all fs) k (param_tokens x) S14 (eqb n 16) tt (param_some x))
 
   drop_values : (s : Stepped (Unit {0})) (z : View → Stepped ℕ) → and_then (and_then {B = Unit {0} × ℕ} s (λ x u. and_then (z u) (λ y t. Goes (x, y) t))) (λ x u. finish u) ≡ and_then s (λ x u. and_then (z u) (λ y t. finish t))
   drop_values (Goes a v) z = by (z v)

@@ -5,6 +5,8 @@ use Rattle.clc_lexer.specs.declared.token.Token.{Token}
 use Rattle.clc_lexer.specs.declared.marks.Mark.{Mark}
 use Rattle.clc_lexer.specs.declared.marks.Mark.TheVariants as m
 use Rattle.clc_tree.specs.declared.expressions.Scalar.{Scalar as Written}
+use Rattle.clc_types.specs.declared.type_rule.TypeRule.{TypeRule}
+use Rattle.clc_types.specs.declared.type_rule.TypeRule.TheVariants.{S1}
 use Rattle.clc_types.specs.declared.forms.Fault.{Fault}
 use Rattle.clc_types.specs.declared.forms.Named.{Named}
 use Rattle.clc_types.specs.declared.forms.Named.TheVariants as nm
@@ -15,8 +17,8 @@ use Rattle.clc_types.specs.Judged.{Judged, Fine, Faulty, both, next, unless, fau
 use Rattle.clc_types.specs.Words.{name_of, mark_of, type_tokens}
 use Rattle.clc_types.specs.Rules.{scalar_needed, pointer_needed, step_needs, index_needs, operator_needs, conditional_needs, assign_needs, call_needs, builtin_needs}
 use Rattle.clc_types.specs.Typing.{Operand, Series, Suffix, At, Stepped, Choices, Couple, couple, number_form, paren_form, index_form, deref_form, post_form, step_form, prefix_form, cast_form, first_of_chain, further, chain_form, conditional_form, assign_form, argument, call_form, builtin_form, name_at, callee_at, called, start, operators, chain, after_comma, series, further_arguments, first_argument, no_arguments, arguments, suffixes, prefixed, conditional}
-use Rattle.clc_types.specs.Scope.{Known}
-use Rattle.clc_types.specs.Walk.{Walked, Right, Wrong, Walk, after, guarded, bump, paren_end, index_end, post_end, step_end, prefix_end, by_mark, cast_end, chain_start, operator_end, chain_end, conditional_end, assign_end, by_callee, call_end, walk_name, walk_callee, WalkOperand, WalkSeries, WalkSuffix, At as WalkAt, Stepped as WalkStepped, WalkChoices, walk_operator, walk_operators, comma, walk_rest, walk_series, walk_argument, walk_further, walk_arguments, walk_suffix, walk_suffixes, walk_conditional}
+use Rattle.clc_types.specs.InternalScope.{Known}
+use Rattle.clc_types.specs.InternalWalk.{Walked, Right, Wrong, Walk, after, guarded, bump, paren_end, index_end, post_end, step_end, prefix_end, by_mark, cast_end, chain_start, operator_end, chain_end, conditional_end, assign_end, by_callee, call_end, walk_name, walk_callee, WalkOperand, WalkSeries, WalkSuffix, At as WalkAt, Stepped as WalkStepped, WalkChoices, walk_operator, walk_operators, comma, walk_rest, walk_series, walk_argument, walk_further, walk_arguments, walk_suffix, walk_suffixes, walk_conditional}
 use Rattle.clc_walk_exact.proofs.Least.{Inside, Same, inside_none, wider, guard_same, after_assoc, next_same, two_same, inside_unless, inside_next, inside_both, both_fine, first_least, next_fine}
 use Rattle.clc_walk_exact.proofs.Needs.{Sound, sound_none, sound_wider, scalar_sound, pointer_sound, step_sound, index_sound, operator_sound, conditional_sound, assign_sound, call_sound, builtin_sound, Placed, placed_push}
 use Rattle.clc_walk_exact.proofs.Agree.{bump_is, same_at, context, Agreed, part, Fair, Good, good_as, right_end, one_good, two_good}
@@ -38,7 +40,7 @@ module _ (look : ℕ → List ℕ → Option Named) (k : Known) where
   pub number_good : (t : Token) → Good look k (leaf (λ c p. Fine (number_form t))) (λ p. Right (number_form t) (bump p 1))
   number_good t = record { some = omega arith; fair = record { inside = λ p. inside_none p (p + 1); same = λ p a. (refl, bump_is p 1 a.fits) } }
 
-  one_fault : (p r hi : ℕ) → p < hi → Inside p hi (record { token = p; rule = r } ∷ [])
+  one_fault : (p : ℕ) (r : TypeRule) (hi : ℕ) → p < hi → Inside p hi (record { token = p; rule = r } ∷ [])
   one_fault p r hi h = record { all = by }
     where
       by : (g : Fault) → Among g (record { token = p; rule = r } ∷ []) → (p ≤ g.token) × (g.token < hi)
@@ -46,9 +48,9 @@ module _ (look : ℕ → List ℕ → Option Named) (k : Known) where
       by g (inr e) = absurd e
 
   name_inside : (t : Token) (p : ℕ) (x : Option Named) → Inside p (p + 1) (faults_of (name_at t p x))
-  name_inside t p None = one_fault p 1 (p + 1) (omega arith)
-  name_inside t p (Some (nm.Function f)) = one_fault p 1 (p + 1) (omega arith)
-  name_inside t p (Some (nm.Builtin f)) = one_fault p 1 (p + 1) (omega arith)
+  name_inside t p None = one_fault p S1 (p + 1) (omega arith)
+  name_inside t p (Some (nm.Function f)) = one_fault p S1 (p + 1) (omega arith)
+  name_inside t p (Some (nm.Builtin f)) = one_fault p S1 (p + 1) (omega arith)
   name_inside t p (Some (nm.Variable v s)) = inside_none p (p + 1)
 
   name_same : (t : Token) (p : ℕ) → p + 1 < 2 ^ 32 → (x : Option Named) → Same (p + 1) (name_at t p x) (walk_name t p x)
@@ -426,8 +428,8 @@ module _ (look : ℕ → List ℕ → Option Named) (k : Known) where
   arguments_in_order (Some s) (Some w) g = all_in_order (first_argument s.first) s.rest w.rest g.rest (first_in_order s.first w.first g.first)
 
   callee_inside : (p : ℕ) (x : Option Named) → Inside p (p + 2) (faults_of (callee_at p x))
-  callee_inside p None = one_fault p 1 (p + 2) (omega arith)
-  callee_inside p (Some (nm.Variable v s)) = one_fault p 1 (p + 2) (omega arith)
+  callee_inside p None = one_fault p S1 (p + 2) (omega arith)
+  callee_inside p (Some (nm.Variable v s)) = one_fault p S1 (p + 2) (omega arith)
   callee_inside p (Some (nm.Function f)) = inside_none p (p + 2)
   callee_inside p (Some (nm.Builtin f)) = inside_none p (p + 2)
 
@@ -440,7 +442,7 @@ module _ (look : ℕ → List ℕ → Option Named) (k : Known) where
   called_inside : (p end : ℕ) (t : Token) (f : Named) (xs : List Argument) → p + 2 ≤ end → Placed (p + 2) end xs → Inside p (end + 1) (faults_of (called c p t f xs))
   called_inside p end t (nm.Function f) xs l h = inside_unless p (end + 1) _ _ (wider p end p (end + 1) _ (omega arith) (omega arith) (call_sound p (p + 2) end k.home f xs (omega arith) h).inside)
   called_inside p end t (nm.Builtin f) xs l h = inside_unless p (end + 1) _ _ (wider p end p (end + 1) _ (omega arith) (omega arith) (builtin_sound p (p + 2) end f xs (omega arith) h).inside)
-  called_inside p end t (nm.Variable v s) xs l h = one_fault p 1 (end + 1) (omega (arith, l))
+  called_inside p end t (nm.Variable v s) xs l h = one_fault p S1 (end + 1) (omega (arith, l))
 
   called_same : (p end : ℕ) (t : Token) (f : Named) (xs : List Argument) → end + 1 < 2 ^ 32 → Placed (p + 2) end xs → Same (end + 1) (called c p t f xs) (by_callee k.home p t f xs end)
   called_same p end t (nm.Function f) xs l h = subst (λ z. Same (end + 1) (called c p t (nm.Function f) xs) (guarded (call_needs p k.home f xs) (Right (call_form t f (slice_get k.home.functions f) xs) z))) (sym (bump_is end 1 l)) (guard_same (end + 1) (call_needs p k.home f xs) _ (call_sound p (p + 2) end k.home f xs (omega arith) h).sorted)

@@ -4,6 +4,7 @@ use Rattle.std.specs.Prelude.{map, bytes_eq, nat_eq, nat_lt, nat_le, ◌&&◌, i
 use Rattle.std.proofs.lemmas.List.{map-append, length-map}
 use Rattle.std.proofs.lemmas.Slice.Eq.{bytes_eq-Decides}
 use Rattle.clc_lexer.specs.declared.token.Token.{Token}
+use Rattle.clc_types.specs.declared.type_rule.TypeRule.TheVariants.{S2}
 use Rattle.clc_types.specs.declared.typed.Var.{Var}
 use Rattle.clc_types.specs.declared.forms.Fault.{Fault}
 use Rattle.clc_types.specs.declared.forms.Shape.{Shape}
@@ -14,11 +15,11 @@ use Rattle.clc_types.specs.Judged.{Judged, Fine, Faulty, both, next, unless, vio
 use Rattle.clc_types.specs.Words.{name_of}
 use Rattle.clc_types.specs.Rules.{var_of}
 use Rattle.clc_types.specs.Names.{or_else, outermost, builtin_named, builtin_of}
-use Rattle.clc_types.specs.Scope.{Entries, Known, found, known, look_in}
+use Rattle.clc_types.specs.InternalScope.{Entries, Known, found, known, look_in}
 use Rattle.clc_types.specs.Blocks.{Decl, Around, Piece, is_visible, last_visible, is_again, earlier, nothing, quiet, past, ending, seq, made, maybe, listed, opened, looping, declared}
 use Rattle.clc_types.specs.Programs.{in_force}
-use Rattle.clc_types.specs.Walk.{Walked, Right, Wrong, Walk, guarded, bump}
-use Rattle.clc_types.specs.Steps.{View, Stepped, Goes, Stops, and_then, reach, PieceWalk, knows_in, number, skipped, entered, left, front, last_of, with_var, declare_in, declared_in, nothing as walk_nothing, past as walk_past, ending as walk_ending, seq as walk_seq, made as walk_made, maybe as walk_maybe, listed as walk_listed, opened as walk_opened, looping as walk_looping, declared as walk_declared}
+use Rattle.clc_types.specs.InternalWalk.{Walked, Right, Wrong, Walk, guarded, bump}
+use Rattle.clc_types.specs.InternalSteps.{View, Stepped, Goes, Stops, and_then, reach, PieceWalk, knows_in, number, skipped, entered, left, front, last_of, with_var, declare_in, declared_in, nothing as walk_nothing, past as walk_past, ending as walk_ending, seq as walk_seq, made as walk_made, maybe as walk_maybe, listed as walk_listed, opened as walk_opened, looping as walk_looping, declared as walk_declared}
 use Rattle.clc_types.proofs.Scopes.{known_last, or_none, or_assoc, front_is, last_is}
 use Rattle.clc_walk_exact.proofs.Least.{Inside, Same, inside_none, wider, inside_unless, inside_next, inside_both, first_least, least_left, inside_violations}
 use Rattle.clc_walk_exact.proofs.Needs.{sound_at}
@@ -471,7 +472,7 @@ module _ (fs : List (List ℕ)) (home : Home) (all : List Decl) where
       }
 
   declare_met : (n : ℕ) (b : Bool) (v : View) (x : List ℕ) (s : Shape) → n ≡ number (length v.vars)
-      → Met (unless (violations v.at ((2, b) ∷ [])) n) (declare_in b v x s) (λ u. (u ≡ with_var v x s) × (b ≡ false))
+      → Met (unless (violations v.at ((S2, b) ∷ [])) n) (declare_in b v x s) (λ u. (u ≡ with_var v x s) × (b ≡ false))
   declare_met n true v x s i = first_least _ [] (tt, tt)
   declare_met n false v x s i = (i, (refl, refl))
 
@@ -479,7 +480,7 @@ module _ (fs : List (List ℕ)) (home : Home) (all : List Decl) where
   unfolding declared_in
   declared_stood s t = record {
     spread = λ from upto p a b. record { later = (omega arith, tt); sooner = (omega arith, omega (arith, a), tt); ended = (omega arith, tt); inner = (omega arith, tt); few = omega arith };
-    inside = λ l from p. inside_unless p (p + 1) _ _ (inside_violations p ((2, is_again all from p (name_of t)) ∷ []));
+    inside = λ l from p. inside_unless p (p + 1) _ _ (inside_violations p ((S2, is_again all from p (name_of t)) ∷ []));
     met = λ l from upto done rest v e la r b f.
         let p = v.at in
         let x = name_of t in
@@ -488,7 +489,7 @@ module _ (fs : List (List ℕ)) (home : Home) (all : List Decl) where
         let again : is_again all from p x ≡ is_some (found v.inner x) = ap (λ z. is_again z from p x) e ∙ apart_after from p x done (d ∷ rest) (later_apart p from p x (d ∷ rest) (omega arith) ld) ∙ sym (r.again p (omega arith) x) in
         let count : earlier all p ≡ number (length v.vars) = ap (λ z. earlier z p) e ∙ earlier_is p done (d ∷ rest) r.sooner ld ∙ sym (number_is done from upto v r (omega (arith, b, f))) in
         let free = is_some (found v.inner x) in
-        met_weak (unless (violations p ((2, is_again all from p x) ∷ [])) (earlier all p)) (declare_in free v x s) (λ u. (u ≡ with_var v x s) × (free ≡ false)) (After done (d ∷ []) from upto v (p + 1))
+        met_weak (unless (violations p ((S2, is_again all from p x) ∷ [])) (earlier all p)) (declare_in free v x s) (λ u. (u ≡ with_var v x s) × (free ≡ false)) (After done (d ∷ []) from upto v (p + 1))
         (λ u h. subst (After done (d ∷ []) from upto v (p + 1)) (sym h.0) (record { rel = declared_rel done from upto v x s r (omega (arith, b, f)) h.1; outer = refl; at = bump_is p 1 (omega (arith, b, f)) }))
-        (subst (λ z. Met (unless (violations p ((2, z) ∷ [])) (earlier all p)) (declare_in free v x s) (λ u. (u ≡ with_var v x s) × (free ≡ false))) (sym again) (declare_met (earlier all p) free v x s count));
+        (subst (λ z. Met (unless (violations p ((S2, z) ∷ [])) (earlier all p)) (declare_in free v x s) (λ u. (u ≡ with_var v x s) × (free ≡ false))) (sym again) (declare_met (earlier all p) free v x s count));
   }

@@ -11,8 +11,8 @@ use Rattle.clc_types.specs.declared.typed.TypeFault.TheVariants.{Rule, Memory}
 use Rattle.clc_types.specs.declared.scope.State.{State}
 use Rattle.clc_types.specs.Judged.{Judged, Fine, Faulty, both, next, faults_of, IsLeast}
 use Rattle.clc_types.specs.Programs.{Before, function_piece, function_at, with_function, functions_at, no_function, program, Judges}
-use Rattle.clc_types.specs.Steps.{View, Stepped, Goes, Stops, and_then, Stands}
-use Rattle.clc_types.specs.Walks.{function_walk, functions_walk}
+use Rattle.clc_types.specs.InternalSteps.{View, Stepped, Goes, Stops, and_then, Stands}
+use Rattle.clc_types.specs.InternalWalks.{function_walk, functions_walk}
 use Rattle.clc_walk_exact.proofs.Least.{Inside, inside_none, wider, inside_next, inside_both, least_left}
 use Rattle.clc_walk_exact.proofs.Pieces.{Met}
 use Rattle.clc_walk_exact.proofs.Headings.{Ready}
@@ -94,7 +94,7 @@ abbrev pub start : View
 start = record { outer = []; inner = []; home = record { functions = []; heights = []; result = Rattle.std.specs.Prelude.None }; vars = []; at = 0 }
 
 ready : Ready no_function 0 start
-ready = record { outer = refl; names = λ x. refl; functions = refl; heights = refl; counts = refl; few = omega arith; at = refl }
+ready = record { outer = refl; names = λ x. refl; functions = refl; heights = refl; counts = refl; low = omega arith; few = omega arith; at = refl }
 
 judged : (j : Judged (List TFunction)) (w : Stepped (List TFunction)) (r : Result (List TFunction) TypeFault) (new : State) → Met (next j (λ ys. Fine ([] ++ ys))) w (λ u. Unit {0}) → Stands w r new
     → Judges j r

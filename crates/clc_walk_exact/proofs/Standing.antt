@@ -13,6 +13,8 @@ use Rattle.clc_tree.specs.declared.statements.Declare.TheVariants as declare
 use Rattle.clc_tree.specs.declared.statements.ForStart.{ForStart}
 use Rattle.clc_tree.specs.declared.statements.ForStart.TheVariants as start
 use Rattle.q_lane.specs.declared.kinds.Scalar.{Scalar}
+use Rattle.clc_types.specs.declared.type_rule.TypeRule.{TypeRule}
+use Rattle.clc_types.specs.declared.type_rule.TypeRule.TheVariants.{S10, S11}
 use Rattle.clc_types.specs.declared.typed.TExpr.{TExpr}
 use Rattle.clc_types.specs.declared.typed.TStmt.{TStmt}
 use Rattle.clc_types.specs.declared.typed.TStmt.TheVariants as st
@@ -26,12 +28,12 @@ use Rattle.clc_types.specs.Judged.{Judged, Fine, Faulty, next, unless, violation
 use Rattle.clc_types.specs.Words.{name_of, value_of, type_of, type_tokens, one_if}
 use Rattle.clc_types.specs.Rules.{kind_of, scalar_needed, no_array, fit_needed, return_needs, bare_needs, is_size}
 use Rattle.clc_types.specs.Typing.{judge, judge_assign}
-use Rattle.clc_types.specs.Scope.{Known}
+use Rattle.clc_types.specs.InternalScope.{Known}
 use Rattle.clc_types.specs.Blocks.{Decl, Piece, nothing, quiet, past, ending, seq, made, maybe, listed, opened, looping, declared, size, init, item_piece, item_step_piece, pointer_shape, pointer_tokens, declare_piece, condition, value, maybe_condition, maybe_value, returned, jump, evaluated, for_start_piece}
 use Rattle.clc_types.specs.Programs.{in_force}
-use Rattle.clc_types.specs.Walk.{Walked, Right, Wrong, Walk, after, guarded, bump, walk_expr, walk_assign}
+use Rattle.clc_types.specs.InternalWalk.{Walked, Right, Wrong, Walk, after, guarded, bump, walk_expr, walk_assign}
 use Rattle.clc_types.specs.Steps as w
-use Rattle.clc_types.specs.Steps.{View, Stepped, Goes, Stops, and_then, reach, PieceWalk, knows_in, size_in, fit_end, init_in, condition_end, value_end, condition_in, value_in, return_end, bare_return, returned_in, jump_in}
+use Rattle.clc_types.specs.InternalSteps.{View, Stepped, Goes, Stops, and_then, reach, PieceWalk, knows_in, size_in, fit_end, init_in, condition_end, value_end, condition_in, value_in, return_end, bare_return, returned_in, jump_in}
 use Rattle.clc_walk_exact.proofs.Least.{Inside, Same, inside_none, wider, guard_same, inside_unless, inside_violations}
 use Rattle.clc_walk_exact.proofs.Needs.{Sound, scalar_sound, no_array_sound, fit_sound, return_sound, bare_sound, sound_1, sound_wider}
 use Rattle.clc_walk_exact.proofs.Agree.{Fair, Good, Agreed, context, bump_is, one_good}
@@ -40,7 +42,7 @@ use Rattle.clc_walk_exact.proofs.Whole.{agree, agree_assign}
 use Rattle.clc_walk_exact.proofs.Pieces.{Stood, Stoods, StoodOption, Met, at_token, reach_met, met_weak, After, Rel, unmoved, spread_none, nothing_stood, quiet_stood, past_stood, ending_stood, made_stood, seq_stood, looping_stood, listed_stood, maybe_stood, opened_stood, declared_stood, stood_as}
 
 -- tests at the first token alone, and then a form
-pub tested_fair : {A : Type 0} (look : ℕ → List ℕ → Option Named) (k : Known) (n r : ℕ) (b : Bool) (a : A) → 0 < n
+pub tested_fair : {A : Type 0} (look : ℕ → List ℕ → Option Named) (k : Known) (n : ℕ) (r : TypeRule) (b : Bool) (a : A) → 0 < n
     → Fair look k (record { tokens = n; at = λ c p. unless (violations p ((r, b) ∷ [])) a }) (λ p. guarded (violations p ((r, b) ∷ [])) (Right a (bump p n)))
 tested_fair look k n r b a pos = record {
   inside = λ p. inside_unless p (p + n) _ a (wider p (p + 1) p (p + n) _ (omega arith) (omega (arith, pos)) (inside_violations p ((r, b) ∷ [])));
@@ -52,13 +54,13 @@ tested_fair look k n r b a pos = record {
 size_fair : (look : ℕ → List ℕ → Option Named) (k : Known) (t : Token) → Fair look k (size t) (size_in t)
 unfolding size_in
 size_fair look k t = record {
-  inside = λ p. inside_unless p (p + 3) _ tt (wider (p + 1) (p + 1 + 1) p (p + 3) _ (omega arith) (omega arith) (inside_violations (p + 1) ((11, not (is_size (value_of t))) ∷ [])));
+  inside = λ p. inside_unless p (p + 3) _ tt (wider (p + 1) (p + 1 + 1) p (p + 3) _ (omega arith) (omega arith) (inside_violations (p + 1) ((S11, not (is_size (value_of t))) ∷ [])));
   same = λ p ag.
       let f = ag.fits in
       let b = not (is_size (value_of t)) in
-      let U : Judged (Unit {0}) = unless (violations (p + 1) ((11, b) ∷ [])) tt in
-      subst (λ z. Same (p + 3) U (guarded (violations z ((11, b) ∷ [])) (Right tt (bump p 3)))) (sym (bump_is p 1 (omega (arith, f))))
-      (subst (λ z. Same (p + 3) U (guarded (violations (p + 1) ((11, b) ∷ [])) (Right tt z))) (sym (bump_is p 3 f)) (guard_same (p + 3) (violations (p + 1) ((11, b) ∷ [])) tt (sound_1 (p + 1) 11 b).sorted));
+      let U : Judged (Unit {0}) = unless (violations (p + 1) ((S11, b) ∷ [])) tt in
+      subst (λ z. Same (p + 3) U (guarded (violations z ((S11, b) ∷ [])) (Right tt (bump p 3)))) (sym (bump_is p 1 (omega (arith, f))))
+      (subst (λ z. Same (p + 3) U (guarded (violations (p + 1) ((S11, b) ∷ [])) (Right tt z))) (sym (bump_is p 3 f)) (guard_same (p + 3) (violations (p + 1) ((S11, b) ∷ [])) tt (sound_1 (p + 1) S11 b).sorted));
 }
 
 condition_good : (look : ℕ → List ℕ → Option Named) (k : Known) (e : Expr) → Good look k (one 0 (judge e) 0 (λ p q x. scalar_needed q x.kind) (λ x. x.expr)) (λ p. after (walk_expr k e p) (λ x r. condition_end p x r))
@@ -126,14 +128,14 @@ module _ (fs : List (List ℕ)) (home : Home) (all : List Decl) where
   unfolding jump_in
   jump_stood s = record {
     spread = λ from upto p a b. spread_none from upto p _ (omega arith);
-    inside = λ l from p. inside_unless p (p + 2) _ s (wider p (p + 1) p (p + 2) _ (omega arith) (omega arith) (inside_violations p ((10, not l) ∷ [])));
+    inside = λ l from p. inside_unless p (p + 2) _ s (wider p (p + 1) p (p + 2) _ (omega arith) (omega arith) (inside_violations p ((S10, not l) ∷ [])));
     met = λ l from upto done rest v e la r b f.
         let hi = v.at + 2 in
-        let J : Judged TStmt = unless (violations v.at ((10, not l) ∷ [])) s in
+        let J : Judged TStmt = unless (violations v.at ((S10, not l) ∷ [])) s in
         met_weak J (jump_in s l v) (λ u. u ≡ at_token v hi) (After fs home all done [] from upto v hi)
         (λ u q. unmoved fs home all done from upto v u hi q (omega arith) r)
-        (reach_met v hi J (guarded (violations v.at ((10, not l) ∷ [])) (Right s (bump v.at 2)))
-        (subst (λ z. Same hi J (guarded (violations v.at ((10, not l) ∷ [])) (Right s z))) (sym (bump_is v.at 2 (omega (arith, b, f)))) (guard_same hi (violations v.at ((10, not l) ∷ [])) s (sound_1 v.at 10 (not l)).sorted)));
+        (reach_met v hi J (guarded (violations v.at ((S10, not l) ∷ [])) (Right s (bump v.at 2)))
+        (subst (λ z. Same hi J (guarded (violations v.at ((S10, not l) ∷ [])) (Right s z))) (sym (bump_is v.at 2 (omega (arith, b, f)))) (guard_same hi (violations v.at ((S10, not l) ∷ [])) s (sound_1 v.at S10 (not l)).sorted)));
   }
 
   pub break_stood : Is (jump st.Break) (λ l v. jump_in st.Break l v)

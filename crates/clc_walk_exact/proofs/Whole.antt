@@ -21,8 +21,8 @@ use Rattle.clc_types.specs.declared.forms.Form.{Form}
 use Rattle.clc_types.specs.Judged.{Part}
 use Rattle.clc_types.specs.Words.{mark_of}
 use Rattle.clc_types.specs.Typing.{Suffix, Operand, Choices, Series, judge, judge_assign, assign_part, cast_part, chain_part, post_step_part, primary_part, unary_part, chain_step_part, choice_part, comma_step_part, cond_part, expr_part, post_part}
-use Rattle.clc_types.specs.Scope.{Known}
-use Rattle.clc_types.specs.Walk.{Walk, WalkSuffix, WalkOperand, WalkChoices, WalkSeries, walk_expr, assign_walk, cast_walk, chain_walk, post_step_walk, primary_walk, unary_walk, chain_step_walk, choice_walk, comma_step_walk, cond_walk, expr_walk, post_walk, walk_assign, walk_cast, walk_chain, walk_post_step, walk_primary, walk_unary, walk_chain_step, walk_choice, walk_comma_step, walk_cond, series_of, walk_post}
+use Rattle.clc_types.specs.InternalScope.{Known}
+use Rattle.clc_types.specs.InternalWalk.{Walk, WalkSuffix, WalkOperand, WalkChoices, WalkSeries, walk_expr, assign_walk, cast_walk, chain_walk, post_step_walk, primary_walk, unary_walk, chain_step_walk, choice_walk, comma_step_walk, cond_walk, expr_walk, post_walk, walk_assign, walk_cast, walk_chain, walk_post_step, walk_primary, walk_unary, walk_chain_step, walk_choice, walk_comma_step, walk_cond, series_of, walk_post}
 use Rattle.clc_walk_exact.proofs.Agree.{Good}
 use Rattle.clc_walk_exact.proofs.Parts.{GoodOperand, GoodOperands, GoodAll, GoodSeries, GoodSuffix, GoodSuffixes, GoodChoices, GoodOption, GoodOptionSeries, number_good, name_good, paren_good, step_good, prefix_good, cast_good, assign_good, chain_good, series_good, suffixes_good, conditional_good, call_good}
 

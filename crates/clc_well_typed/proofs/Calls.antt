@@ -4,6 +4,7 @@ use Rattle.std.proofs.lemmas.Bool.{not-false}
 use Rattle.std.specs.Prelude.{map}
 use Rattle.clc_lexer.specs.declared.token.Token.{Token}
 use Rattle.q_lane.specs.declared.kinds.Scalar.{Scalar}
+use Rattle.clc_types.specs.declared.type_rule.TypeRule.TheVariants.{S6, S7}
 use Rattle.clc_types.specs.declared.typed.Builtin.{Builtin}
 use Rattle.clc_types.specs.declared.typed.Builtin.TheVariants as b
 use Rattle.clc_types.specs.declared.typed.Ty.TheVariants as ty
@@ -145,8 +146,8 @@ numbers_passed [] [] a e h = tt
 numbers_passed [] (x ∷ xs) a e h = absurd (omega (arith, e))
 numbers_passed (s ∷ ss) [] a e h = absurd (omega (arith, e))
 numbers_passed (s ∷ ss) (x ∷ xs) a e h =
-    let d = append_none (violations x.place ((7, not (matches (kind_of 0 s) x.kind)) ∷ [])) (fits ss xs) h in
-    let m = not-false (matches (kind_of 0 s) x.kind) (not_violated x.place 7 (not (matches (kind_of 0 s) x.kind)) [] d.0).0 in
+    let d = append_none (violations x.place ((S7, not (matches (kind_of 0 s) x.kind)) ∷ [])) (fits ss xs) h in
+    let m = not-false (matches (kind_of 0 s) x.kind) (not_violated x.place S7 (not (matches (kind_of 0 s) x.kind)) [] d.0).0 in
     (number_matched x.kind (ap (λ z. matches (kind_of 0 z) x.kind) (sym a.0) ∙ m), numbers_passed ss xs a.1 (omega (arith, e)) d.1)
 
 module _ (vars : List Var) (before : List TFunction) (result : Option Scalar) where
@@ -203,8 +204,8 @@ module _ (vars : List Var) (before : List TFunction) (result : Option Scalar) wh
   pub builtin_sound : (t : Token) (p : ℕ) (f : Builtin) (args : List Argument) → builtin_needs p f args ≡ [] → AllSound args → Sound vars before result (builtin_form t f args)
   builtin_sound t p f args e h =
       let xs = map (seen vars before result) (exprs args) in
-      let d = append_none (violations p ((6, not (eqb (length (builtin_params f)) (length args))) ∷ [])) (fits (builtin_params f) args) e in
-      let c = not-false (eqb (length (builtin_params f)) (length args)) (not_violated p 6 (not (eqb (length (builtin_params f)) (length args))) [] d.0).0 in
+      let d = append_none (violations p ((S6, not (eqb (length (builtin_params f)) (length args))) ∷ [])) (fits (builtin_params f) args) e in
+      let c = not-false (eqb (length (builtin_params f)) (length args)) (not_violated p S6 (not (eqb (length (builtin_params f)) (length args))) [] d.0).0 in
       let all = numbers_passed (builtin_params f) args (numbers_taken f) (eqb-true (length (builtin_params f)) (length args) c) d.1 in
       let w = work_of f args in
       let g = k.Value (gives f w) in

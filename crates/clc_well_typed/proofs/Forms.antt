@@ -7,6 +7,7 @@ use Rattle.clc_lexer.specs.declared.marks.Mark.TheVariants as m
 use Rattle.clc_tree.specs.declared.expressions.Scalar.{Scalar as Written}
 use Rattle.q_lane.specs.declared.kinds.Scalar.{Scalar}
 use Rattle.q_lane.specs.declared.kinds.Scalar.TheVariants.{Int, Uint}
+use Rattle.clc_types.specs.declared.type_rule.TypeRule.TheVariants.{S3, S4, S5, S12}
 use Rattle.clc_types.specs.declared.typed.Ty.TheVariants as ty
 use Rattle.clc_types.specs.declared.typed.Var.{Var}
 use Rattle.clc_types.specs.declared.typed.Var.TheVariants as var
@@ -67,10 +68,10 @@ record Stepped (t : Kind) (at : Place) : Type 0 where
 
 stepped : (q : ℕ) (x : Form) → step_needs q x ≡ [] → Stepped x.kind x.place
 stepped q x h =
-    let e0 = not_violated q 3 (is_void x.kind) _ h in
-    let e1 = not_violated q 4 (is_nowhere x.place) _ e0.1 in
-    let e2 = not_violated q 5 (is_constant x.place) _ e1.1 in
-    let e3 = not_violated q 12 (is_array_kind x.kind) [] e2.1 in
+    let e0 = not_violated q S3 (is_void x.kind) _ h in
+    let e1 = not_violated q S4 (is_nowhere x.place) _ e0.1 in
+    let e2 = not_violated q S5 (is_constant x.place) _ e1.1 in
+    let e3 = not_violated q S12 (is_array_kind x.kind) [] e2.1 in
     record { array = e3.0; place = writable x.place e1.0 e2.0 }
 
 pub chained_last : (a : Seen) (xs : List (Mark × Seen)) (x : Mark × Seen) → chained a (xs ++ x ∷ []) ≡ combined (chained a xs) x

@@ -12,6 +12,7 @@ use Rattle.clc_tree.specs.declared.functions.Params.{Params}
 use Rattle.clc_tree.specs.declared.functions.Params.TheVariants as params
 use Rattle.clc_tree.specs.declared.functions.Function.{Function}
 use Rattle.q_lane.specs.declared.kinds.Scalar.{Scalar}
+use Rattle.clc_types.specs.declared.type_rule.TypeRule.TheVariants.{S2, S6, S7, S8, S9, S14}
 use Rattle.clc_types.specs.declared.typed.Builtin.{Builtin}
 use Rattle.clc_types.specs.declared.typed.Var.{Var}
 use Rattle.clc_types.specs.declared.typed.TStmt.{TStmt, out-TStmt, out-roll-TStmt}
@@ -79,8 +80,8 @@ arguments_fit [] [] e h = tt
 arguments_fit [] (x ∷ xs) e h = absurd (omega (arith, e))
 arguments_fit (s ∷ ss) [] e h = absurd (omega (arith, e))
 arguments_fit (s ∷ ss) (x ∷ xs) e h =
-    let d = append_none (violations x.place ((7, not (matches (kind_of 0 s) x.kind)) ∷ [])) (fits ss xs) h in
-    let f = fitting (kind_of 0 s) x.kind (not-false (matches (kind_of 0 s) x.kind) (not_violated x.place 7 (not (matches (kind_of 0 s) x.kind)) [] d.0).0) in
+    let d = append_none (violations x.place ((S7, not (matches (kind_of 0 s) x.kind)) ∷ [])) (fits ss xs) h in
+    let f = fitting (kind_of 0 s) x.kind (not-false (matches (kind_of 0 s) x.kind) (not_violated x.place S7 (not (matches (kind_of 0 s) x.kind)) [] d.0).0) in
     (f.right, ap (λ z. accepts z (ty_of x.kind)) (value_typed s) ∙ f.accepts, arguments_fit ss xs (omega (arith, e)) d.1)
 
 -- what is called is no kernel and stands before
@@ -96,12 +97,12 @@ no_kernel true false e h = absurd (cc)
 no_kernel false c e h = refl
 
 passed : (p f n : ℕ) (s : Signature) (args : List Argument) (high : Bool)
-    → violations p ((6, not (eqb (length s.params) (length args))) ∷ (8, s.kernel && not (eqb f n)) ∷ (9, eqb f n || high) ∷ []) ++ fits s.params args ≡ [] → Passed s f n args
+    → violations p ((S6, not (eqb (length s.params) (length args))) ∷ (S8, s.kernel && not (eqb f n)) ∷ (S9, eqb f n || high) ∷ []) ++ fits s.params args ≡ [] → Passed s f n args
 passed p f n s args high h =
-    let d = append_none (violations p ((6, not (eqb (length s.params) (length args))) ∷ (8, s.kernel && not (eqb f n)) ∷ (9, eqb f n || high) ∷ [])) (fits s.params args) h in
-    let e6 = not_violated p 6 (not (eqb (length s.params) (length args))) _ d.0 in
-    let e8 = not_violated p 8 (s.kernel && not (eqb f n)) _ e6.1 in
-    let e9 = not_violated p 9 (eqb f n || high) [] e8.1 in
+    let d = append_none (violations p ((S6, not (eqb (length s.params) (length args))) ∷ (S8, s.kernel && not (eqb f n)) ∷ (S9, eqb f n || high) ∷ [])) (fits s.params args) h in
+    let e6 = not_violated p S6 (not (eqb (length s.params) (length args))) _ d.0 in
+    let e8 = not_violated p S8 (s.kernel && not (eqb f n)) _ e6.1 in
+    let e9 = not_violated p S9 (eqb f n || high) [] e8.1 in
     let o = (or_parts (eqb f n) high e9.0).0 in
     record { kernel = no_kernel s.kernel (eqb f n) o e8.0; other = o; count = not-false (eqb (length s.params) (length args)) e6.0; fits = d.1 }
 
@@ -260,8 +261,8 @@ module _ (vars : List Var) (before : List TFunction) (result : Option Scalar) wh
   counted_gives : (i k : ℕ) → Gives vars before result (Few i) (counted i k)
   counted_gives i k = record {
     holds = λ c r p x h.
-        let u = unless_parts (violations p ((14, eqb i 16) ∷ [])) tt x h in
-        (not_violated p 14 (eqb i 16) [] u.0).0;
+        let u = unless_parts (violations p ((S14, eqb i 16) ∷ [])) tt x h in
+        (not_violated p S14 (eqb i 16) [] u.0).0;
   }
 
   one_param : (s : Shape) (i : ℕ) (l : Bool) (n m : ℕ) (y : Unit {0} × ℕ) → Both (Still (Few i)) (Numbered vars s) l n m y → One i l n m tt
@@ -323,8 +324,8 @@ module _ (vars : List Var) (before : List TFunction) (result : Option Scalar) wh
     holds = λ c r p x h.
         let named = is_some (outermost fs (name_of f.name)) in
         let led = is_kernel f.lead && is_some (result_of f.returns) in
-        let u = unless_parts (violations p ((2, named) ∷ (8, led) ∷ [])) tt x h in
-        (not_violated p 8 led [] (not_violated p 2 named ((8, led) ∷ []) u.0).1).0;
+        let u = unless_parts (violations p ((S2, named) ∷ (S8, led) ∷ [])) tt x h in
+        (not_violated p S8 led [] (not_violated p S2 named ((S8, led) ∷ []) u.0).1).0;
   }
 
   within : (c : ℕ) (l : Bool) (n m : ℕ) (y : Unit {0} × List TStmt) → Both (Listed c) (OkStmts vars before result) l n m y → Within c l n m y.1

@@ -1,5 +1,6 @@
 -- A judgement without a fault: what it says of its parts.
 use Rattle.std.proofs.Common.{◌≡◌, ℕ, Bool, true, false, ◌&&◌, List, [], ◌∷◌, ◌++◌, refl, ap, ◌∙◌}
+use Rattle.clc_types.specs.declared.type_rule.TypeRule.{TypeRule}
 use Rattle.clc_types.specs.declared.forms.Fault.{Fault}
 use Rattle.clc_types.specs.Judged.{Judged, Fine, Faulty, both, next, unless, violations}
 
@@ -28,7 +29,7 @@ pub append_none : (xs ys : List Fault) → xs ++ ys ≡ [] → (xs ≡ []) × (y
 append_none [] ys h = (refl, h)
 append_none (x ∷ xs) ys h = absurd (cc)
 
-pub not_violated : (p r : ℕ) (b : Bool) (more : List (ℕ × Bool)) → violations p ((r, b) ∷ more) ≡ [] → (b ≡ false) × (violations p more ≡ [])
+pub not_violated : (p : ℕ) (r : TypeRule) (b : Bool) (more : List (TypeRule × Bool)) → violations p ((r, b) ∷ more) ≡ [] → (b ≡ false) × (violations p more ≡ [])
 not_violated p r true more h = absurd (cc)
 not_violated p r false more h = (refl, h)
 

@@ -3,6 +3,7 @@ use Rattle.std.proofs.Common.{◌≡◌, ℕ, suc, ◌+◌, Bool, true, List, []
 use Rattle.std.specs.Prelude.{map}
 use Rattle.clc_lexer.specs.declared.token.Token.{Token}
 use Rattle.q_lane.specs.declared.kinds.Scalar.{Scalar}
+use Rattle.clc_types.specs.declared.type_rule.TypeRule.TheVariants.{S2}
 use Rattle.clc_types.specs.declared.typed.Var.{Var}
 use Rattle.clc_types.specs.declared.typed.TFunction.{TFunction}
 use Rattle.clc_types.specs.declared.forms.Shape.{Shape}
@@ -116,7 +117,7 @@ module _ (vars : List Var) (before : List TFunction) (result : Option Scalar) wh
     fine = λ c pl l from upto p done rest e b u y i.
         let d : Decl = record { name = name_of t; place = p; from = from; upto = upto; shape = s } in
         let after : Above p (d ∷ rest) = (omega arith, above_lower p (p + 1) rest (omega arith) u) in
-        let j = unless_parts (violations p ((2, is_again c.all from p (name_of t)) ∷ [])) (earlier c.all p) y i in
+        let j = unless_parts (violations p ((S2, is_again c.all from p (name_of t)) ∷ [])) (earlier c.all p) y i in
         let k : y ≡ length done = sym j.1 ∙ ap (λ z. earlier z p) e ∙ earlier_is p done (d ∷ rest) b after in
         (k, length_last done d, ap (slice_get vars) k ∙ ap (λ z. slice_get z (length done)) (pl.all ∙ ap (map variable_of) e) ∙ at_length variable_of done d rest);
   }

@@ -16,6 +16,7 @@ use Rattle.clc_tree.specs.declared.statements.Block.{Block}
 use Rattle.clc_tree.specs.declared.statements.BlockPart.{BlockPart}
 use Rattle.clc_tree.specs.declared.statements.Stmt.{Stmt}
 use Rattle.q_lane.specs.declared.kinds.Scalar.{Scalar}
+use Rattle.clc_types.specs.declared.type_rule.TypeRule.TheVariants.{S10, S11, S13}
 use Rattle.clc_types.specs.declared.typed.Var.{Var}
 use Rattle.clc_types.specs.declared.typed.TExpr.{TExpr}
 use Rattle.clc_types.specs.declared.typed.TStmt.{TStmt}
@@ -196,8 +197,8 @@ module _ (vars : List Var) (before : List TFunction) (result : Option Scalar) wh
   size_gives : (v : Token) → Gives vars before result (Sized (value_of v)) (size v)
   size_gives v = record {
     holds = λ c r p x h.
-        let u = unless_parts (violations (p + 1) ((11, not (is_size (value_of v))) ∷ [])) tt x h in
-        not-false (is_size (value_of v)) (not_violated (p + 1) 11 (not (is_size (value_of v))) [] u.0).0;
+        let u = unless_parts (violations (p + 1) ((S11, not (is_size (value_of v))) ∷ [])) tt x h in
+        not-false (is_size (value_of v)) (not_violated (p + 1) S11 (not (is_size (value_of v))) [] u.0).0;
   }
 
   array_fits : (s : Scalar) (z : ℕ) (f l : Bool) (n m : ℕ) (y : ℕ × Unit {0}) → Both (Numbered vars (shape.Array s z f)) (Still (Sized z)) l n m y → OkStmts l n m (st.Declare y.0 None ∷ [])
@@ -245,7 +246,7 @@ module _ (vars : List Var) (before : List TFunction) (result : Option Scalar) wh
   value_returned : (r : Option Scalar) (p : ℕ) (x : Form) → return_needs r p x.kind ≡ [] → Sound vars before result x → is_returned vars before result r (Some x.expr) ≡ true
   value_returned None p x h s = absurd (cc)
   value_returned (Some z) p x h s =
-      let i = scalar_kind x.kind (not-false (is_scalar x.kind) (not_violated p 13 (not (is_scalar x.kind)) [] h).0) in
+      let i = scalar_kind x.kind (not-false (is_scalar x.kind) (not_violated p S13 (not (is_scalar x.kind)) [] h).0) in
       let r = s.fine (ap is_array_kind i.1) in
       yes r.valid (ap is_number (r.typed ∙ ap ty_of i.1))
 
@@ -271,9 +272,9 @@ module _ (vars : List Var) (before : List TFunction) (result : Option Scalar) wh
   jump_stands s f d = record {
     order = λ from upto p. omega arith;
     fine = λ c pl l from upto p done rest e b u y i.
-        let j = unless_parts (violations p ((10, not l) ∷ [])) s y i in
+        let j = unless_parts (violations p ((S10, not l) ∷ [])) s y i in
         subst (OkStmt l (length done) (length (done ++ []))) j.1
-        (f l (not-false l (not_violated p 10 (not l) [] j.0).0), none_declared (length done) (length (done ++ [])) s (sym (ap length (append-nil done))) d);
+        (f l (not-false l (not_violated p S10 (not l) [] j.0).0), none_declared (length done) (length (done ++ [])) s (sym (ap length (append-nil done))) d);
   }
 
   -- ---- statements of statements

@@ -5,6 +5,7 @@ use Rattle.clc_lexer.specs.declared.marks.Mark.{Mark}
 use Rattle.clc_lexer.specs.declared.marks.Mark.TheVariants as m
 use Rattle.q_lane.specs.declared.kinds.Scalar.{Scalar}
 use Rattle.q_lane.specs.declared.kinds.Scalar.TheVariants.{Char, Uchar, Short, Ushort, Int, Uint}
+use Rattle.clc_types.specs.declared.type_rule.TypeRule.TheVariants.{S3, S4, S5, S12}
 use Rattle.clc_types.specs.declared.typed.Ty.{Ty}
 use Rattle.clc_types.specs.declared.typed.Ty.TheVariants as ty
 use Rattle.clc_types.specs.declared.forms.Fault.{Fault}
@@ -107,7 +108,7 @@ scalar_found p (k.Pointer z c g) h = absurd (cc)
 scalar_found p (k.Array v g) h = absurd (cc)
 
 pub plain_found : (p : ℕ) (t : Kind) → no_array p t ≡ [] → is_array_kind t ≡ false
-plain_found p t h = (not_violated p 12 (is_array_kind t) [] h).0
+plain_found p t h = (not_violated p S12 (is_array_kind t) [] h).0
 
 -- what an operator of a chain takes
 pub record Taken (o : Mark) (a b : Kind) : Type 0 where
@@ -115,23 +116,23 @@ pub record Taken (o : Mark) (a b : Kind) : Type 0 where
   pub right : is_array_kind b ≡ false
   pub takes : takes o (ty_of a) (ty_of b) ≡ true
 
-by_sum : (p : ℕ) (x y : Bool) → violations p ((12, not x) ∷ []) ++ [] ≡ [] → x || y ≡ true
+by_sum : (p : ℕ) (x y : Bool) → violations p ((S12, not x) ∷ []) ++ [] ≡ [] → x || y ≡ true
 by_sum p true y h = refl
 by_sum p false y h = absurd (cc)
 
-by_plus : (q : ℕ) (x y : Bool) → violations q ((12, not (x && true)) ∷ []) ≡ [] → x || y ≡ true
+by_plus : (q : ℕ) (x y : Bool) → violations q ((S12, not (x && true)) ∷ []) ≡ [] → x || y ≡ true
 by_plus q true y h = refl
 by_plus q false y h = absurd (cc)
 
-never : (q : ℕ) (x : Bool) → violations q ((12, not (x && false)) ∷ []) ≡ [] → ⊥
+never : (q : ℕ) (x : Bool) → violations q ((S12, not (x && false)) ∷ []) ≡ [] → ⊥
 never q true h = absurd (cc)
 never q false h = absurd (cc)
 
 abbrev left_needed : Mark → ℕ → Kind → List Fault
-left_needed o p a = violations p ((3, is_void a) ∷ (12, is_array_kind a || (is_pointer_kind a && not (is_sum o))) ∷ [])
+left_needed o p a = violations p ((S3, is_void a) ∷ (S12, is_array_kind a || (is_pointer_kind a && not (is_sum o))) ∷ [])
 
 abbrev right_needed : Mark → Kind → ℕ → Kind → List Fault
-right_needed o a q b = violations q ((3, is_void b) ∷ (12, is_array_kind b || (is_pointer_kind b && not (is_plus o && is_scalar a))) ∷ [])
+right_needed o a q b = violations q ((S3, is_void b) ∷ (S12, is_array_kind b || (is_pointer_kind b && not (is_plus o && is_scalar a))) ∷ [])
 
 taken_other : (o : Mark) (p q : ℕ) (a b : Kind) → left_needed o p a ++ right_needed o a q b ≡ [] → Taken o a b
 taken_other o p q k.Void b h = absurd (cc)
@@ -254,8 +255,8 @@ past_void false false e h = absurd (cc)
 
 pub fit_found : (a : Kind) (q : ℕ) (b : Kind) → fit_needed a q b ≡ [] → Fitting a b
 fit_found a q b h =
-    let e = not_violated q 3 (is_void b) _ h in
-    fitting a b (past_void (is_void b) (matches a b) e.0 (not_violated q 12 (not (is_void b) && not (matches a b)) [] e.1).0)
+    let e = not_violated q S3 (is_void b) _ h in
+    fitting a b (past_void (is_void b) (matches a b) e.0 (not_violated q S12 (not (is_void b) && not (matches a b)) [] e.1).0)
 
 -- ---- assignments
 
@@ -278,10 +279,10 @@ record Target (o : Mark) (a : Kind) (at : Place) : Type 0 where
 
 target : (o : Mark) (p : ℕ) (a : Kind) (at : Place) → assigned_needed o p a at ≡ [] → Target o a at
 target o p a at h =
-    let e0 = not_violated p 3 (is_void a) _ h in
-    let e1 = not_violated p 4 (is_nowhere at) _ e0.1 in
-    let e2 = not_violated p 5 (is_constant at) _ e1.1 in
-    let e3 = not_violated p 12 (is_array_kind a || (is_pointer_kind a && not (takes_pointer o))) [] e2.1 in
+    let e0 = not_violated p S3 (is_void a) _ h in
+    let e1 = not_violated p S4 (is_nowhere at) _ e0.1 in
+    let e2 = not_violated p S5 (is_constant at) _ e1.1 in
+    let e3 = not_violated p S12 (is_array_kind a || (is_pointer_kind a && not (takes_pointer o))) [] e2.1 in
     record { void = e0.0; place = writable at e1.0 e2.0; array = e3.0 }
 
 -- a number, or a pointer that the operator takes
@@ -307,8 +308,8 @@ value_plain (k.Array v g) h = absurd (cc)
 -- what the tests of the value say
 gotten : (o : Mark) (a : Kind) (q : ℕ) (b : Kind) → value_needed o a q b ≡ [] → gets o a b ≡ true
 gotten o a q b h =
-    let e = not_violated q 3 (is_void b) _ h in
-    past_void (is_void b) (gets o a b) e.0 (not_violated q 12 (not (is_void b) && not (gets o a b)) [] e.1).0
+    let e = not_violated q S3 (is_void b) _ h in
+    past_void (is_void b) (gets o a b) e.0 (not_violated q S12 (not (is_void b) && not (gets o a b)) [] e.1).0
 
 pub assigned : (o : Mark) (p q : ℕ) (a : Kind) (at : Place) (b : Kind) → assigned_needed o p a at ≡ [] → value_needed o a q b ≡ [] → Assigned o a at b
 assigned m.ShiftLeftAssign p q a at b h i =

@@ -81,17 +81,9 @@ fn run_words<C: Compiler, K: JudgedKernel + Drop, F: Files, S: Sink>(
                 source_name,
                 kernel,
                 module_name,
-                launch_name,
+                launch_name: launch,
             },
-        ) => run_file::<C, F, S>(
-            alloc,
-            source_name,
-            kernel,
-            module_name,
-            launch_name,
-            files,
-            out,
-        ),
+        ) => run_file::<C, F, S>(alloc, source_name, kernel, module_name, launch, files, out),
         Some(
             Command::Judge {
                 source_name,

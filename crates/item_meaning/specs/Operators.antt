@@ -14,10 +14,9 @@ use Rattle.clc_types.specs.declared.typed.Ty.{Ty}
 use Rattle.clc_types.specs.declared.typed.Ty.TheVariants as ty
 use Rattle.item_meaning.specs.declared.values.Value.{Value}
 use Rattle.item_meaning.specs.declared.values.Value.TheVariants.{Num, Null, At}
-use Rattle.clc_types.specs.declared.forms.Kind.{Kind}
-use Rattle.clc_types.specs.declared.forms.Kind.TheVariants as kind
-use Rattle.clc_types.specs.declared.forms.Space.TheVariants.{Global}
-use Rattle.clc_types.specs.Rules.{Operator, Shift, operator_of, result_of, ty_of, common, promoted}
+use Rattle.clc_types.specs.TypeArithmetic.{operator_of, works_in}
+use Rattle.clc_types.specs.Rules.{result_of, ty_of}
+use Rattle.clc_types.specs.WellTyped.{kind_of_type}
 
 -- ---- types
 
@@ -27,20 +26,9 @@ scalar_of ty.Void = Int
 scalar_of (ty.Value s) = s
 scalar_of (ty.Pointer e c) = e
 
--- a type as typing sees it. Whether a pointer is to global or to constant space plays no part here
-abbrev pub kind_as : Ty → Kind
-kind_as ty.Void = kind.Void
-kind_as (ty.Value s) = kind.Value s
-kind_as (ty.Pointer e c) = kind.Pointer Global c e
-
 -- the type that an operator's result has, by the types of its operands
 abbrev pub type_after : Mark → Ty → Ty → Ty
-type_after o a b = ty_of (result_of (operator_of o) (kind_as a) (kind_as b))
-
--- the type in which an operator works: a shift in that of its left operand
-abbrev pub works_in : Operator → Scalar → Scalar → Scalar
-works_in Shift s t = promoted s
-works_in _ s t = common s t
+type_after o a b = ty_of (result_of (operator_of o) (kind_of_type a) (kind_of_type b))
 
 -- ---- numbers
 

@@ -3,7 +3,7 @@
 ghost use Rattle.std.specs.Prelude.{◌≡◌, not};
 ghost use Rattle.clc_types.specs.Rules.{operator_of};
 ghost use Rattle.q_lane.specs.Numbers.{narrowed, is_less as is_less_of};
-ghost use Rattle.item_meaning.specs.Operators.{binary as binary_of, prefixed as prefixed_of, operator_in as operator_in_mark, works_in as works_in_type, on_word, on_words, truth as truth_of, forward as forward_of, backward as backward_of, moved as moved_of, combined as combined_of, converted as converted_of};
+ghost use Rattle.item_meaning.specs.Operators.{binary as binary_of, prefixed as prefixed_of, operator_in as operator_in_mark, on_word, on_words, truth as truth_of, forward as forward_of, backward as backward_of, moved as moved_of, combined as combined_of, converted as converted_of};
 ghost use Rattle.item_meaning.specs.NodeMeanings.{stepped as stepped_of};
 
 use crate::types::works_in;

@@ -1,8 +1,10 @@
 //! Types of operands and of results.
 
 ghost use Rattle.std.specs.Prelude.{◌≡◌};
-ghost use Rattle.clc_types.specs.Rules.{common as common_of, promoted as promoted_of, operator_of, sum_kind, scalar_of as scalar_of_kind, ty_of};
-ghost use Rattle.item_meaning.specs.Operators.{scalar_of as scalar_of_type, kind_as, type_after as type_after_mark, works_in as works_in_type};
+ghost use Rattle.clc_types.specs.TypeArithmetic.{common as common_of, promoted as promoted_of, operator_of, works_in as works_in_type};
+ghost use Rattle.clc_types.specs.Rules.{sum_kind, scalar_of as scalar_of_kind, ty_of};
+ghost use Rattle.clc_types.specs.WellTyped.{kind_of_type};
+ghost use Rattle.item_meaning.specs.Operators.{scalar_of as scalar_of_type, type_after as type_after_mark};
 
 use clc_lexer::Mark;
 use clc_types::Ty;
@@ -38,7 +40,7 @@ fn promoted(a: Scalar) -> Scalar
 }
 
 fn number_type(ty: Ty) -> Scalar
-    ensures { result ≡ scalar_of_kind (kind_as ty) }
+    ensures { result ≡ scalar_of_kind (kind_of_type ty) }
 {
     match ty {
         Ty::Value(scalar) => scalar,
@@ -47,7 +49,7 @@ fn number_type(ty: Ty) -> Scalar
 }
 
 fn sum_type(a: Ty, b: Ty) -> Ty
-    ensures { result ≡ ty_of (sum_kind (kind_as a) (kind_as b)) }
+    ensures { result ≡ ty_of (sum_kind (kind_of_type a) (kind_of_type b)) }
 {
     match (a, b) {
         (Ty::Pointer { .. }, _) => a,

@@ -96,7 +96,7 @@ target_text through_b dst =
     else codes "unlock"
 
 -- a read address: 0 to 31 are the file's, 32 is the next uniform, 38 the element's number through A and the QPU's through B, 39 is no read,
--- 48 to 51 are the VPM, the end of a transfer and the mutex
+-- 48 is the VPM, 50 the end of a transfer and 51 the mutex. No unit reads through 49
 unfoldable pub source_text : Bool → ℕ → List ℕ
 source_text through_b src =
     if nat_lt src 32 then file_letter through_b ∷ decimal src

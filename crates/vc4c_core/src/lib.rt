@@ -8,7 +8,10 @@ ghost use Rattle.commands.specs.Due.{IsQuiet, ShortOrKept};
 ghost use Rattle.commands.specs.Lines.{Says};
 ghost use Rattle.commands.specs.ExecClauses.{ExecAnswers};
 ghost use Rattle.commands.specs.DisasmClauses.{DisasmAnswers, DisasmEnds};
-ghost use Rattle.vc4c_core.specs.Clauses.{Runs, EndsAsMade, AnswersAsMade, OnlyWritesMade, CompileAnswers, RunAnswers, CompileEnds, CompileRefuses, RunEnds, RunRefuses, JudgeAnswers, JudgeEnds, JudgeRefuses};
+ghost use Rattle.vc4c_core.specs.Clauses.{Runs, EndsAsMade, AnswersAsMade, OnlyWritesMade};
+ghost use Rattle.vc4c_core.specs.Clauses.{CompileAnswers, CompileEnds, CompileRefuses};
+ghost use Rattle.vc4c_core.specs.Clauses.{RunAnswers, RunEnds, RunRefuses};
+ghost use Rattle.vc4c_core.specs.Clauses.{JudgeAnswers, JudgeEnds, JudgeRefuses};
 
 use crate::compiler::OpenClCompiler;
 use crate::judge::OpenClKernel;

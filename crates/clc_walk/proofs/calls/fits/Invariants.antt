@@ -1,6 +1,6 @@
 use Rattle.std.proofs.Common.{◌≡◌, drop}
 use Rattle.clc_types.specs.Rules.{fits}
-use Rattle.clc_types.specs.Answers.{first}
+use Rattle.clc_types.specs.InternalAnswers.{first}
 use Rattle.clc_walk.proofs.calls.fits.Given as goal
 
 abbrev pub invariant-loop-i : goal.invariant-loop-i

@@ -2,7 +2,7 @@ use Rattle.std.proofs.Common.{◌≡◌, ◌+◌, [], ◌∷◌, ◌++◌, map, 
 use Rattle.std.specs.Prelude.{is_some, Result, List}
 use Rattle.clc_tree.specs.declared.statements.Declare.{Declare}
 use Rattle.clc_types.specs.Words.{one_if, type_tokens, type_of}
-use Rattle.clc_types.specs.Steps.{Goes, and_then, Stands, View, view_of, item_walk, item_step_walk, listed, declare_walk, skipped}
+use Rattle.clc_types.specs.InternalSteps.{Goes, and_then, Stands, View, view_of, item_walk, item_step_walk, listed, declare_walk, skipped}
 use Rattle.clc_types.specs.declared.typed.TStmt.{TStmt}
 use Rattle.clc_types.specs.declared.typed.TypeFault.{TypeFault}
 use Rattle.clc_types.specs.declared.scope.State.{State}

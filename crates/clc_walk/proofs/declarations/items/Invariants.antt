@@ -1,6 +1,6 @@
 use Rattle.std.proofs.Common.{◌≡◌, drop}
 use Rattle.std.specs.Prelude.{map, Bool}
-use Rattle.clc_types.specs.Steps.{item_step_walk, listed, view_of}
+use Rattle.clc_types.specs.InternalSteps.{item_step_walk, listed, view_of}
 use Rattle.clc_walk.proofs.declarations.items.Given as goal
 
 abbrev pub invariant-loop-step : goal.invariant-loop-step

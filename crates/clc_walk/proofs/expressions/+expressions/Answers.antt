@@ -3,8 +3,8 @@ use Rattle.std.specs.Prelude.{map}
 use Rattle.clc_tree.specs.declared.expressions.ChainStep.{ChainStep}
 use Rattle.clc_tree.specs.declared.expressions.CommaStep.{CommaStep}
 use Rattle.clc_tree.specs.declared.expressions.PostStep.{PostStep}
-use Rattle.clc_types.specs.Scope.{knows}
-use Rattle.clc_types.specs.Walk.{comma, walk_operators, walk_further, walk_suffixes, walk_chain_step, walk_comma_step, walk_post_step}
+use Rattle.clc_types.specs.InternalScope.{knows}
+use Rattle.clc_types.specs.InternalWalk.{comma, walk_operators, walk_further, walk_suffixes, walk_chain_step, walk_comma_step, walk_post_step}
 use Rattle.clc_walk.proofs.WalkRules.{handed, handed_items, item_at, operators_fail, operators_go, suffixes_fail, suffixes_go, arguments_fail, arguments_go, set_fails, set_goes, level_fails, level_goes, cond_fails, cond_goes, expr_fails, commas_fail, commas_go, operand_fails, post_fails, post_goes, paren_fails, paren_goes, index_fails, index_goes, suffixes_done, arguments_done, first_argument_fails, arguments_goes}
 use Rattle.clc_walk.proofs.expressions.+expressions.Goals as goal
 

@@ -1,7 +1,7 @@
 use Rattle.std.proofs.Common.{◌≡◌, drop}
 use Rattle.std.specs.Prelude.{map}
-use Rattle.clc_types.specs.Scope.{knows}
-use Rattle.clc_types.specs.Walk.{comma, walk_operators, walk_further, walk_suffixes, walk_chain_step, walk_comma_step, walk_post_step}
+use Rattle.clc_types.specs.InternalScope.{knows}
+use Rattle.clc_types.specs.InternalWalk.{comma, walk_operators, walk_further, walk_suffixes, walk_chain_step, walk_comma_step, walk_post_step}
 use Rattle.clc_walk.proofs.expressions.+expressions.Given as goal
 
 abbrev pub invariant-commas-loop-step : goal.invariant-commas-loop-step

@@ -1,5 +1,5 @@
 use Rattle.std.proofs.Common.{sym, ◌∙◌}
-use Rattle.clc_types.specs.Walk.{assign_end}
+use Rattle.clc_types.specs.InternalWalk.{assign_end}
 use Rattle.clc_walk.proofs.WalkRules.{refused}
 use Rattle.clc_walk.proofs.expressions.assign_end.Goals as goal
 

@@ -1,5 +1,5 @@
 use Rattle.std.proofs.Common.{sym, ◌∙◌}
-use Rattle.clc_types.specs.Walk.{operator_end}
+use Rattle.clc_types.specs.InternalWalk.{operator_end}
 use Rattle.clc_walk.proofs.WalkRules.{refused}
 use Rattle.clc_walk.proofs.expressions.operator_end.Goals as goal
 

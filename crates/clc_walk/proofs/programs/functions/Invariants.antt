@@ -1,6 +1,6 @@
 use Rattle.std.proofs.Common.{◌≡◌, drop, []}
-use Rattle.clc_types.specs.Steps.{view_of}
-use Rattle.clc_types.specs.Walks.{functions_walk}
+use Rattle.clc_types.specs.InternalSteps.{view_of}
+use Rattle.clc_types.specs.InternalWalks.{functions_walk}
 use Rattle.clc_walk.proofs.programs.functions.Given as goal
 
 abbrev pub invariant-loop-f : goal.invariant-loop-f

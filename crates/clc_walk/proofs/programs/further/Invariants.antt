@@ -1,6 +1,6 @@
 use Rattle.std.proofs.Common.{◌≡◌, drop, ◌+◌}
-use Rattle.clc_types.specs.Steps.{view_of}
-use Rattle.clc_types.specs.Walks.{further_walk}
+use Rattle.clc_types.specs.InternalSteps.{view_of}
+use Rattle.clc_types.specs.InternalWalks.{further_walk}
 use Rattle.clc_walk.proofs.programs.further.Given as goal
 
 abbrev pub invariant-loop-i : goal.invariant-loop-i

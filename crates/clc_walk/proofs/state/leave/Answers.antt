@@ -1,7 +1,7 @@
 use Rattle.std.proofs.Common.{◌≡◌, ◌∷◌, ◌++◌, [], refl, sym, ap, ◌∙◌}
 use Rattle.std.specs.Prelude.{map, List, ℕ}
-use Rattle.clc_types.specs.Scope.{Entries, seen}
-use Rattle.clc_types.specs.Steps.{front, last_of, left, view_of, View}
+use Rattle.clc_types.specs.InternalScope.{Entries, seen}
+use Rattle.clc_types.specs.InternalSteps.{front, last_of, left, view_of, View}
 use Rattle.clc_types.proofs.Scopes.{pop_front, pop_last}
 use Rattle.clc_walk.proofs.state.leave.Goals as goal
 

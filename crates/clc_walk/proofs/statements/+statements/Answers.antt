@@ -1,6 +1,6 @@
 use Rattle.std.proofs.Common.{sym, subst, Err, Ok}
 use Rattle.clc_tree.specs.declared.statements.For.{out-For}
-use Rattle.clc_types.specs.Steps.{Stands, view_of, walk_for}
+use Rattle.clc_types.specs.InternalSteps.{Stands, view_of, walk_for}
 use Rattle.clc_walk.proofs.Listed.{handed}
 use Rattle.clc_walk.proofs.ForParts.{test_stops, step_stops, body_stops}
 use Rattle.clc_walk.proofs.statements.+statements.Goals as goal

@@ -1,6 +1,6 @@
 use Rattle.std.proofs.Common.{◌≡◌, drop, []}
 use Rattle.std.specs.Prelude.{map}
-use Rattle.clc_types.specs.Steps.{walk_block_part, listed, view_of}
+use Rattle.clc_types.specs.InternalSteps.{walk_block_part, listed, view_of}
 use Rattle.clc_walk.proofs.statements.+statements.Given as goal
 
 abbrev pub invariant-parts-loop-x : goal.invariant-parts-loop-x

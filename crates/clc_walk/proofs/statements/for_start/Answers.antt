@@ -1,5 +1,5 @@
 use Rattle.std.proofs.Common.{sym, subst}
-use Rattle.clc_types.specs.Steps.{Stands, view_of, for_start_walk, declare_walk}
+use Rattle.clc_types.specs.InternalSteps.{Stands, view_of, for_start_walk, declare_walk}
 use Rattle.clc_walk.proofs.Listed.{alone}
 use Rattle.clc_walk.proofs.statements.for_start.Goals as goal
 

@@ -1,4 +1,4 @@
--- What the open blocks say of a name. The innermost block is the last.
+-- Internal: what the code keeps, and no part of the rules. What the open blocks say of a name. The innermost block is the last.
 use Rattle.std.specs.Prelude.{ℕ, bytes_eq, List, [], ◌∷◌, ◌++◌, Option, None, map}
 use Rattle.std.specs.Map.{lookup}
 use Rattle.indexmap.specs.IndexMap.{IndexMap}

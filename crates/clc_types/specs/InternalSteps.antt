@@ -1,4 +1,4 @@
--- The walk over statements, with the open blocks and the variables so far.
+-- Internal: what the code does, and no part of the rules. The walk over statements, with the open blocks and the variables so far.
 use Rattle.std.specs.Prelude.{◌≡◌, ℕ, ◌+◌, min, Bool, true, false, not, List, [], ◌∷◌, ◌++◌, Option, Some, None, is_some, length, map, Result, Ok, Err}
 use Rattle.clc_lexer.specs.declared.token.Token.{Token}
 use Rattle.clc_tree.specs.declared.expressions.Expr.{Expr}
@@ -22,6 +22,7 @@ use Rattle.clc_tree.specs.declared.statements.BlockPart.TheOpen as o
 use Rattle.clc_tree.specs.declared.statements.BlockPart.TheOpen.{BlockPart-F, Stmt-F, Block-F, Do-F, Else-F, For-F, If-F, While-F}
 use Rattle.clc_tree.specs.declared.statements.BlockPart.TheFolds.{fold-BlockPart, fold-Stmt, fold-Block, fold-Do, fold-Else, fold-For, fold-If, fold-While}
 use Rattle.q_lane.specs.declared.kinds.Scalar.{Scalar}
+use Rattle.clc_types.specs.declared.type_rule.TypeRule.TheVariants.{S2, S10, S11}
 use Rattle.clc_types.specs.declared.typed.TExpr.{TExpr}
 use Rattle.clc_types.specs.declared.typed.TStmt.{TStmt}
 use Rattle.clc_types.specs.declared.typed.TStmt.TheVariants as st
@@ -40,8 +41,8 @@ use Rattle.clc_types.specs.Judged.{violations}
 use Rattle.clc_types.specs.Words.{name_of, value_of, type_of, type_tokens, one_if}
 use Rattle.clc_types.specs.Rules.{var_of, kind_of, scalar_needed, no_array, fit_needed, return_needs, bare_needs, is_size}
 use Rattle.clc_types.specs.Blocks.{pointer_shape, pointer_tokens, evaluated}
-use Rattle.clc_types.specs.Scope.{Entries, Known, found, look_in, seen}
-use Rattle.clc_types.specs.Walk.{Walked, Right, Wrong, after, guarded, bump, walk_expr, walk_assign}
+use Rattle.clc_types.specs.InternalScope.{Entries, Known, found, look_in, seen}
+use Rattle.clc_types.specs.InternalWalk.{Walked, Right, Wrong, after, guarded, bump, walk_expr, walk_assign}
 
 -- what the walk carries: the blocks outside the innermost one, that one, the function, its variables so far, and the next token's number
 pub record View : Type 0 where
@@ -136,7 +137,7 @@ with_var v x s = record {
 
 -- the name is not declared in the innermost block, and then it is
 abbrev pub declare_in : Bool → View → List ℕ → Shape → Stepped ℕ
-declare_in true v x s = Stops (record { token = v.at; rule = 2 })
+declare_in true v x s = Stops (record { token = v.at; rule = S2 })
 declare_in false v x s = Goes (number (length v.vars)) (with_var v x s)
 
 unfoldable pub declared_in : View → List ℕ → Shape → Stepped ℕ
@@ -146,7 +147,7 @@ abbrev pub declared : Shape → Token → PieceWalk ℕ
 declared s t = λ l v. declared_in v (name_of t) s
 
 unfoldable pub size_in : Token → ℕ → Walked (Unit {0})
-size_in t p = guarded (violations (bump p 1) ((11, not (is_size (value_of t))) ∷ [])) (Right tt (bump p 3))
+size_in t p = guarded (violations (bump p 1) ((S11, not (is_size (value_of t))) ∷ [])) (Right tt (bump p 3))
 
 abbrev pub size : Token → PieceWalk (Unit {0})
 size t = λ l v. reach v (size_in t v.at)
@@ -213,7 +214,7 @@ returned_in None v = reach v (bare_return v.at v.home.result)
 returned_in (Some e) v = reach v (after (walk_expr (knows_in v) e (bump v.at 1)) (λ x r. return_end v.at v.home.result x r))
 
 unfoldable pub jump_in : TStmt → Bool → View → Stepped TStmt
-jump_in s l v = reach v (guarded (violations v.at ((10, not l) ∷ [])) (Right s (bump v.at 2)))
+jump_in s l v = reach v (guarded (violations v.at ((S10, not l) ∷ [])) (Right s (bump v.at 2)))
 
 abbrev pub for_start_walk : ForStart → PieceWalk (List TStmt)
 for_start_walk (start.Declare d) = declare_walk d

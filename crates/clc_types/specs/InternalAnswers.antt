@@ -1,8 +1,8 @@
--- What the checker answers, where the walk goes right or wrong. Memory may always run out.
+-- Internal: what the code does, and no part of the rules. What the checker answers, where the walk goes right or wrong. Memory may always run out.
 use Rattle.std.specs.Prelude.{◌≡◌, ℕ, Option, Some, None, Ok, Err, Result, List, [], ◌∷◌, Vec}
 use Rattle.clc_types.specs.declared.typed.TypeFault.{TypeFault}
 use Rattle.clc_types.specs.declared.typed.TypeFault.TheVariants.{Rule, Memory}
-use Rattle.clc_types.specs.Walk.{Walked, Right, Wrong}
+use Rattle.clc_types.specs.InternalWalk.{Walked, Right, Wrong}
 
 abbrev pub Walks : {A : Type 0} → Walked A → Result A TypeFault → ℕ → Type 0
 Walks (Right a q) (Ok b) n = (a ≡ b) × (q ≡ n)

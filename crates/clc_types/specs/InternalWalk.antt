@@ -1,4 +1,4 @@
--- The walk over an expression: it stops at the first fault, and counts the tokens on its way.
+-- Internal: what the code does, and no part of the rules. The walk over an expression: it stops at the first fault, and counts the tokens on its way.
 use Rattle.std.specs.Prelude.{ℕ, ◌+◌, min, List, [], ◌∷◌, ◌++◌, Option, Some, None, slice_get, map}
 use Rattle.clc_lexer.specs.declared.token.Token.{Token}
 use Rattle.clc_lexer.specs.declared.marks.Mark.{Mark}
@@ -19,6 +19,7 @@ use Rattle.clc_tree.specs.declared.expressions.Scalar.{Scalar as Written}
 use Rattle.clc_tree.specs.declared.expressions.Assign.TheOpen as o
 use Rattle.clc_tree.specs.declared.expressions.Assign.TheOpen.{Assign-F, Cast-F, Chain-F, PostStep-F, Primary-F, Unary-F, ChainStep-F, Choice-F, CommaStep-F, Cond-F, Expr-F, Post-F}
 use Rattle.clc_tree.specs.declared.expressions.Assign.TheFolds.{fold-Assign, fold-Cast, fold-Chain, fold-PostStep, fold-Primary, fold-Unary, fold-ChainStep, fold-Choice, fold-CommaStep, fold-Cond, fold-Expr, fold-Post}
+use Rattle.clc_types.specs.declared.type_rule.TypeRule.TheVariants.{S1}
 use Rattle.clc_types.specs.declared.forms.Fault.{Fault}
 use Rattle.clc_types.specs.declared.forms.Named.{Named}
 use Rattle.clc_types.specs.declared.forms.Named.TheVariants as nm
@@ -29,7 +30,7 @@ use Rattle.clc_types.specs.declared.forms.Home.{Home}
 use Rattle.clc_types.specs.Words.{name_of, mark_of, type_tokens}
 use Rattle.clc_types.specs.Rules.{scalar_needed, pointer_needed, step_needs, index_needs, operator_needs, conditional_needs, assign_needs, call_needs, builtin_needs}
 use Rattle.clc_types.specs.Typing.{number_form, variable_form, paren_form, index_form, deref_form, post_form, step_form, prefix_form, cast_form, first_of_chain, further, chain_form, conditional_form, assign_form, argument, call_form, builtin_form}
-use Rattle.clc_types.specs.Scope.{Known}
+use Rattle.clc_types.specs.InternalScope.{Known}
 
 -- what was found, with the number of the next token
 pub data Walked (A : Type 0) : Type 0 where
@@ -94,7 +95,7 @@ assign_end m p x q y r = guarded (assign_needs m p x q y) (Right (assign_form m 
 abbrev pub by_callee : Home → ℕ → Token → Named → List Argument → ℕ → Walked Form
 by_callee home p t (nm.Function f) args r = guarded (call_needs p home f args) (Right (call_form t f (slice_get home.functions f) args) (bump r 1))
 by_callee home p t (nm.Builtin f) args r = guarded (builtin_needs p f args) (Right (builtin_form t f args) (bump r 1))
-by_callee home p t (nm.Variable v s) args r = Wrong (record { token = p; rule = 1 })
+by_callee home p t (nm.Variable v s) args r = Wrong (record { token = p; rule = S1 })
 
 unfoldable pub call_end : Home → ℕ → Token → Named → List Argument → ℕ → Walked Form
 call_end home p t f args r = by_callee home p t f args r
@@ -103,12 +104,12 @@ call_end home p t f args r = by_callee home p t f args r
 
 abbrev pub walk_name : Token → ℕ → Option Named → Walked Form
 walk_name t p (Some (nm.Variable v s)) = Right (variable_form t v s) (bump p 1)
-walk_name t p _ = Wrong (record { token = p; rule = 1 })
+walk_name t p _ = Wrong (record { token = p; rule = S1 })
 
 abbrev pub walk_callee : ℕ → Option Named → Walked Named
 walk_callee p (Some (nm.Function f)) = Right (nm.Function f) (bump p 2)
 walk_callee p (Some (nm.Builtin f)) = Right (nm.Builtin f) (bump p 2)
-walk_callee p _ = Wrong (record { token = p; rule = 1 })
+walk_callee p _ = Wrong (record { token = p; rule = S1 })
 
 -- ---- lists
 

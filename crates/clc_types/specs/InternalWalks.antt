@@ -1,10 +1,11 @@
--- The walk over functions and a program.
-use Rattle.std.specs.Prelude.{ℕ, suc, ◌+◌, min, false, ◌&&◌, eqb, List, [], ◌∷◌, ◌++◌, Option, Some, None, is_some, length}
+-- Internal: what the code does, and no part of the rules. The walk over functions and a program.
+use Rattle.std.specs.Prelude.{ℕ, suc, ◌+◌, false, ◌&&◌, eqb, List, [], ◌∷◌, ◌++◌, Option, Some, None, is_some, length}
 use Rattle.clc_tree.specs.declared.functions.Param.{Param}
 use Rattle.clc_tree.specs.declared.functions.ParamStep.{ParamStep}
 use Rattle.clc_tree.specs.declared.functions.Params.{Params}
 use Rattle.clc_tree.specs.declared.functions.Params.TheVariants as params
 use Rattle.clc_tree.specs.declared.functions.Function.{Function}
+use Rattle.clc_types.specs.declared.type_rule.TypeRule.TheVariants.{S2, S8, S14}
 use Rattle.clc_types.specs.declared.typed.TStmt.{TStmt}
 use Rattle.clc_types.specs.declared.typed.TStmt.TheVariants as st
 use Rattle.clc_types.specs.declared.typed.TFunction.{TFunction}
@@ -13,11 +14,11 @@ use Rattle.clc_types.specs.Judged.{violations}
 use Rattle.clc_types.specs.Words.{name_of, one_if, is_kernel}
 use Rattle.clc_types.specs.Heights.{stmt_reach}
 use Rattle.clc_types.specs.Programs.{param_shape, param_tokens, param_name, shapes_of, result_of, returns_tokens, signature}
-use Rattle.clc_types.specs.Walk.{Walked, Right, guarded, bump}
-use Rattle.clc_types.specs.Steps.{View, Stepped, Goes, and_then, reach, number, skipped, left, declared_in, knows_in, walk_block}
+use Rattle.clc_types.specs.InternalWalk.{Walked, Right, guarded, bump}
+use Rattle.clc_types.specs.InternalSteps.{View, Stepped, Goes, and_then, reach, number, skipped, left, declared_in, knows_in, walk_block}
 
 unfoldable pub counted_in : ℕ → ℕ → ℕ → Walked (Unit {0})
-counted_in n k p = guarded (violations p ((14, eqb n 16) ∷ [])) (Right tt (bump p k))
+counted_in n k p = guarded (violations p ((S14, eqb n 16) ∷ [])) (Right tt (bump p k))
 
 abbrev pub param_walk : ℕ → Param → View → Stepped (Unit {0})
 param_walk n x v = and_then (reach v (counted_in n (param_tokens x) v.at)) (λ y u. and_then (declared_in u (name_of (param_name x)) (param_shape x)) (λ m w. Goes tt w))
@@ -34,7 +35,7 @@ params_in (Some (params.List x xs)) v = and_then (param_walk 0 x v) (λ y u. fur
 
 unfoldable pub heading_in : Function → View → Stepped (Unit {0})
 heading_in f v =
-    reach v (guarded (violations v.at ((2, is_some ((knows_in v).look (name_of f.name))) ∷ (8, is_kernel f.lead && is_some (result_of f.returns)) ∷ [])) (Right tt (bump v.at 1)))
+    reach v (guarded (violations v.at ((S2, is_some ((knows_in v).look (name_of f.name))) ∷ (S8, is_kernel f.lead && is_some (result_of f.returns)) ∷ [])) (Right tt (bump v.at 1)))
 
 -- the function's name is added to the outermost block, and the function to those that may be called; a block is opened for it
 unfoldable pub begun : Function → View → View
@@ -62,7 +63,7 @@ unfoldable pub ended : TStmt → View → View
 ended body v = left (record {
   outer = v.outer;
   inner = v.inner;
-  home = record { functions = v.home.functions; heights = v.home.heights ++ min (suc (stmt_reach v.home.heights body)) 17 ∷ []; result = v.home.result };
+  home = record { functions = v.home.functions; heights = v.home.heights ++ number (suc (stmt_reach v.home.heights body)) ∷ []; result = v.home.result };
   vars = [];
   at = v.at;
 })
