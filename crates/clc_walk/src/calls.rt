@@ -10,7 +10,10 @@ ghost use Rattle.clc_types.specs.declared.forms.Named.TheVariants as named;
 use crate::expressions::{broken, memory, plain, skip};
 use crate::rules::{kind_of, matches, scalar_of};
 use clc_lexer::Token;
-use clc_types::{Argument, Builtin, Fault, Form, Home, Kind, Named, Node, Shape, Signature, TExpr, TypeFault, TypeRule};
+use clc_types::{
+    Argument, Builtin, Fault, Form, Home, Kind, Named, Node, Shape, Signature, TExpr, TypeFault,
+    TypeRule,
+};
 use q_lane::Scalar;
 use sqlite_items::Items;
 use std::alloc::Global;
@@ -277,6 +280,9 @@ pub fn call_end(
     match callee {
         Named::Function(function) => function_end(alloc, at, home, p, name, function, list),
         Named::Builtin(which) => builtin_end(alloc, at, home, p, name, which, list),
-        Named::Variable(_, _) => Err(TypeFault::Rule { rule: TypeRule::S1, token: p }),
+        Named::Variable(_, _) => Err(TypeFault::Rule {
+            rule: TypeRule::S1,
+            token: p,
+        }),
     }
 }

@@ -21,7 +21,10 @@ use clc_tree::{
     Assign, Cast, Chain, ChainStep, CommaStep, Cond, Expr, Post, PostStep, Primary,
     Scalar as Written, Unary,
 };
-use clc_types::{Argument, Fault, Form, Kind, Named, Node, Place, Scope, Shape, Sofar, TExpr, TypeFault, TypeRule};
+use clc_types::{
+    Argument, Fault, Form, Kind, Named, Node, Place, Scope, Shape, Sofar, TExpr, TypeFault,
+    TypeRule,
+};
 use q_lane::Scalar;
 use sqlite_items::{Boxed, Items};
 use std::alloc::{AllocError, Global};
@@ -658,7 +661,10 @@ fn primary(alloc: Global, scope: &Scope, at: &mut u32, e: &Primary) -> Result<Fo
                 skip(at, 1);
                 Ok(variable_form(token, var, shape))
             }
-            _ => Err(TypeFault::Rule { rule: TypeRule::S1, token: p }),
+            _ => Err(TypeFault::Rule {
+                rule: TypeRule::S1,
+                token: p,
+            }),
         },
         Primary::Paren(opening, inner, _) => {
             skip(at, 1);
@@ -670,7 +676,10 @@ fn primary(alloc: Global, scope: &Scope, at: &mut u32, e: &Primary) -> Result<Fo
             arguments: written,
             ..
         } => match named(scope, name_of(name)) {
-            None | Some(Named::Variable(_, _)) => Err(TypeFault::Rule { rule: TypeRule::S1, token: p }),
+            None | Some(Named::Variable(_, _)) => Err(TypeFault::Rule {
+                rule: TypeRule::S1,
+                token: p,
+            }),
             Some(callee) => {
                 skip(at, 2);
                 let list = arguments(alloc, scope, at, written)?;

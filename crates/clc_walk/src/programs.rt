@@ -178,10 +178,16 @@ fn heading(state: &mut State, f: &Function) -> Result<(), TypeFault>
 {
     let token = state.at;
     if named(&state.scope, name_of(&f.name)).is_some() {
-        return Err(TypeFault::Rule { rule: TypeRule::S2, token });
+        return Err(TypeFault::Rule {
+            rule: TypeRule::S2,
+            token,
+        });
     }
     if is_kernel(&f.lead) && result_of(&f.returns).is_some() {
-        return Err(TypeFault::Rule { rule: TypeRule::S8, token });
+        return Err(TypeFault::Rule {
+            rule: TypeRule::S8,
+            token,
+        });
     }
     skip(&mut state.at, 1);
     Ok(())
