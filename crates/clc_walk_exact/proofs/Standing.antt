@@ -32,7 +32,7 @@ use Rattle.clc_types.specs.InternalScope.{Known}
 use Rattle.clc_types.specs.Blocks.{Decl, Piece, nothing, quiet, past, ending, seq, made, maybe, listed, opened, looping, declared, size, init, item_piece, item_step_piece, pointer_shape, pointer_tokens, declare_piece, condition, value, maybe_condition, maybe_value, returned, jump, evaluated, for_start_piece}
 use Rattle.clc_types.specs.Programs.{in_force}
 use Rattle.clc_types.specs.InternalWalk.{Walked, Right, Wrong, Walk, after, guarded, bump, walk_expr, walk_assign}
-use Rattle.clc_types.specs.Steps as w
+use Rattle.clc_types.specs.InternalSteps as w
 use Rattle.clc_types.specs.InternalSteps.{View, Stepped, Goes, Stops, and_then, reach, PieceWalk, knows_in, size_in, fit_end, init_in, condition_end, value_end, condition_in, value_in, return_end, bare_return, returned_in, jump_in}
 use Rattle.clc_walk_exact.proofs.Least.{Inside, Same, inside_none, wider, guard_same, inside_unless, inside_violations}
 use Rattle.clc_walk_exact.proofs.Needs.{Sound, scalar_sound, no_array_sound, fit_sound, return_sound, bare_sound, sound_1, sound_wider}
