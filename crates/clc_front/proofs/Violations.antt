@@ -1,6 +1,6 @@
 -- A source has one first violation at most for a kernel's name, or else one typed tree and one kernel, and not both.
-use Rattle.std.proofs.Common.{◌≡◌, ℕ, List, ◌∷◌, Bool, true, false, refl, sym, ap, ◌∙◌, subst, arith, inl, inr}
-use Rattle.std.specs.Prelude.{◌⊎◌, Option, Some, None, slice_get, Result, Ok, Err, IfOk}
+use Rattle.std.proofs.Common.{◌≡◌, ℕ, List, [], ◌∷◌, Bool, true, false, refl, sym, ap, ◌∙◌, subst, arith, inl, inr}
+use Rattle.std.specs.Prelude.{◌⊎◌, Option, Some, None, get_or, slice_get, Result, Ok, Err, IfOk}
 use Rattle.clc_lexer.specs.declared.token.Token.{Token}
 use Rattle.clc_lexer.specs.declared.token.LexRule.{LexRule}
 use Rattle.clc_lexer.specs.SourceText.{IsFirstFault}
@@ -63,22 +63,12 @@ pub same_function : (source kernel : List ℕ) (t u : List TFunction) (a b : TFu
 same_function source kernel t u a b h g w v =
     same_wanted u kernel a b (subst (λ x. IsWanted x kernel a) (same_typed source t u h g) w) v
 
--- a number is that of one rule
+-- a number is that of one rule; none has the number 0
+rules : List TypeRule
+rules = S1 ∷ S1 ∷ S2 ∷ S3 ∷ S4 ∷ S5 ∷ S6 ∷ S7 ∷ S8 ∷ S9 ∷ S10 ∷ S11 ∷ S12 ∷ S13 ∷ S14 ∷ []
+
 numbered : ℕ → TypeRule
-numbered 1 = S1
-numbered 2 = S2
-numbered 3 = S3
-numbered 4 = S4
-numbered 5 = S5
-numbered 6 = S6
-numbered 7 = S7
-numbered 8 = S8
-numbered 9 = S9
-numbered 10 = S10
-numbered 11 = S11
-numbered 12 = S12
-numbered 13 = S13
-numbered _ = S14
+numbered n = get_or rules n S1
 
 its_number : (r : TypeRule) → numbered (rank r) ≡ r
 its_number S1 = refl
