@@ -64,10 +64,10 @@ same_function source kernel t u a b h g w v =
     same_wanted u kernel a b (subst (λ x. IsWanted x kernel a) (same_typed source t u h g) w) v
 
 -- a number is that of one rule; none has the number 0
-rules : List TypeRule
+abbrev rules : List TypeRule
 rules = S1 ∷ S1 ∷ S2 ∷ S3 ∷ S4 ∷ S5 ∷ S6 ∷ S7 ∷ S8 ∷ S9 ∷ S10 ∷ S11 ∷ S12 ∷ S13 ∷ S14 ∷ []
 
-numbered : ℕ → TypeRule
+abbrev numbered : ℕ → TypeRule
 numbered n = get_or rules n S1
 
 its_number : (r : TypeRule) → numbered (rank r) ≡ r
