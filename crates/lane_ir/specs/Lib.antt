@@ -1,0 +1,7 @@
+pub mod Weights
+pub mod LaneMeaning
+pub mod Valid
+pub mod Kept
+pub mod Recipe
+pub mod Undivided
+pub mod Batch
