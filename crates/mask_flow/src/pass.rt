@@ -81,7 +81,8 @@ fn put_item(
     put_body(alloc, out, &prolog.ids, at, &ir.body)
 }
 
-/// A batch of items: the prolog's definitions, and the item's statements under masks. In each lane that is live it does what the item does.
+/// A batch of items: the prolog's definitions, and the item's statements under masks, by which each live lane is to do what its item does.
+/// Which statements these are is what the clauses say; that they do so isn't proved yet.
 ///
 /// # Errors
 ///
