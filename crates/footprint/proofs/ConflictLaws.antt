@@ -1,18 +1,12 @@
 -- Conflicts of marks that were joined, and the laws of conflicts.
-use Rattle.std.proofs.Common.{arith, ◌≡◌, ℕ, ◌+◌, ◌<◌, ◌≤◌, max, List, [], ◌∷◌, ◌++◌, length, get_or, take, refl, subst, inl, inr, ⊎_elim}
+use Rattle.std.proofs.Common.{arith, ◌≡◌, ℕ, List, [], ◌∷◌, ◌++◌, refl, subst, inl, inr, ⊎_elim}
 use Rattle.std.specs.Prelude.{◌⊎◌, Option, None, Some}
-use Rattle.std.proofs.lemmas.List.{take_more, take_all}
 use Rattle.std.proofs.lemmas.List.Elements.{Contains-append_left, Contains-append_right, Contains-append_cases, Contains-push, Contains-push_cases}
 use Rattle.footprint.specs.Marks.{IsIn, Uses, ConflictAt, IsBefore}
-use Rattle.footprint.specs.Least.{IsLeast, IsNotAfter}
-use Rattle.footprint.proofs.LeastLaws.{least_of_both}
+use Rattle.footprint.specs.Least.{IsLeast}
 use Rattle.footprint.specs.declared.marks.Mark.{Mark}
 use Rattle.footprint.specs.declared.marks.Use.{Use}
-use Rattle.footprint.specs.declared.marks.Use.TheVariants.{Read, Write}
-
--- what a read past the end of a list of marks would give
-abbrev pub no_mark : Mark
-no_mark = record { how = Read; buffer = 0; from = 0; to = 0 }
+use Rattle.footprint.specs.declared.marks.Use.TheVariants.{Write}
 
 -- a conflict is one from the other side too
 pub conflict_swap : (f g : List Mark) (b x : ℕ) → ConflictAt f g b x → ConflictAt g f b x
@@ -46,7 +40,7 @@ conflict_left f f' g b x = conflict_more f (f ++ f') g b x (uses_left f f' b x)
 conflict_right : (f f' g : List Mark) (b x : ℕ) → ConflictAt f' g b x → ConflictAt (f ++ f') g b x
 conflict_right f f' g b x = conflict_more f' (f ++ f') g b x (uses_right f f' b x)
 
-conflict_cases : (f f' g : List Mark) (b x : ℕ) → ConflictAt (f ++ f') g b x → ConflictAt f g b x ⊎ ConflictAt f' g b x
+pub conflict_cases : (f f' g : List Mark) (b x : ℕ) → ConflictAt (f ++ f') g b x → ConflictAt f g b x ⊎ ConflictAt f' g b x
 conflict_cases f f' g b x h =
     ⊎_elim (λ u. inl (h.0, h.1, u, h.3, h.4)) (λ u. inr (h.0, h.1, u, h.3, h.4)) (uses_cases f f' b x h.0 h.2)
 
@@ -62,58 +56,18 @@ one_least P (Some p) (Some q) h k =
     let byte : p.1 ≡ q.1 = grind arith in
     λ i. Some (buffer i, byte i)
 
--- the first place of one mark more
-pub first_more : (f g : List Mark) (i : ℕ) (d : Mark) (p q r : Option (ℕ × ℕ)) → i < length f
-    → IsLeast (ConflictAt (take i f) g) p → IsLeast (ConflictAt (get_or f i d ∷ []) g) q → (r ≡ p) ⊎ (r ≡ q) → IsNotAfter r p → IsNotAfter r q
-    → IsLeast (ConflictAt (take (i + 1) f) g) r
-first_more f g i d p q r l h k e s t =
-    let m = get_or f i d in
-    rw (take_more f i d l)
-    (least_of_both (ConflictAt (take i f) g) (ConflictAt (m ∷ []) g) (ConflictAt (take i f ++ m ∷ []) g)
-    (conflict_left (take i f) (m ∷ []) g) (conflict_right (take i f) (m ∷ []) g) (conflict_cases (take i f) (m ∷ []) g)
-    p q r h k e s t)
-
--- the first place of all marks
-pub first_done : (f g : List Mark) (i : ℕ) (found : Option (ℕ × ℕ)) → length f ≤ i → IsLeast (ConflictAt (take i f) g) found → IsLeast (ConflictAt f g) found
-first_done f g i found l h = rw (take_all i f l) at h
-
 -- from both sides the same place is the first
 pub first_swap : (f g : List Mark) (found : Option (ℕ × ℕ)) → IsLeast (ConflictAt f g) found → IsLeast (ConflictAt g f) found
 first_swap f g None h = λ b x c. h b x (conflict_swap g f b x c)
 first_swap f g (Some p) h = (conflict_swap f g p.0 p.1 h.0, λ b x l c. h.1 b x l (conflict_swap g f b x c))
 
 -- what a single mark has lies in it
-in_one : (m : Mark) (how : Use) (b x : ℕ) → Uses (m ∷ []) how b x → IsIn m how b x
+pub in_one : (m : Mark) (how : Use) (b x : ℕ) → Uses (m ∷ []) how b x → IsIn m how b x
 in_one m how b x u =
     ⊎_elim (λ c. absurd (omega (arith, c.1))) (λ (e : m ≡ u.0). rw e u.2) (Contains-push_cases [] m u.0 u.1)
 
-of_one : (m : Mark) (how : Use) (b x : ℕ) → IsIn m how b x → Uses (m ∷ []) how b x
+pub of_one : (m : Mark) (how : Use) (b x : ℕ) → IsIn m how b x → Uses (m ∷ []) how b x
 of_one m how b x h = (m, Contains-push [] m, h)
-
--- two marks of one buffer, one of them of a write, conflict at a byte that both have
-pub conflict_here : (m n : Mark) (x : ℕ) → m.buffer ≡ n.buffer → (m.how ≡ Write) ⊎ (n.how ≡ Write)
-    → m.from ≤ x → n.from ≤ x → x < m.to → x < n.to → ConflictAt (m ∷ []) (n ∷ []) m.buffer x
-conflict_here m n x same writes a b c d =
-    (m.how, n.how, of_one m m.how m.buffer x (refl, refl, a, c), of_one n n.how m.buffer x (refl, same, b, d), writes)
-
--- where a mark conflicts with another, both have the byte
-record BothHave (m n : Mark) (b x : ℕ) : Type 0 where
-  buffer : b ≡ m.buffer
-  first : m.from ≤ x
-  second : n.from ≤ x
-
-both_have : (m n : Mark) (h k : Use) (b x : ℕ) → Uses (m ∷ []) h b x → Uses (n ∷ []) k b x → BothHave m n b x
-both_have m n h k b x u v =
-    let i = in_one m h b x u in
-    let j = in_one n k b x v in
-    record { buffer = i.1; first = i.2; second = j.2 }
-
-conflict_in : (m n : Mark) (b x : ℕ) → ConflictAt (m ∷ []) (n ∷ []) b x → BothHave m n b x
-conflict_in m n b x h = both_have m n h.0 h.1 b x h.2 h.3
-
--- there is none before the greater of their two beginnings
-pub first_here : (m n : Mark) (x : ℕ) → (x ≡ max m.from n.from) → (b y : ℕ) → IsBefore b y (m.buffer, x) → ConflictAt (m ∷ []) (n ∷ []) b y → ⊥
-first_here m n x is b y l h = let both = conflict_in m n b y h in grind arith
 
 -- what the least conflict says of the marks inside, it says of the footprints
 pub least_of : (f g f' g' : List Mark) (found : Option (ℕ × ℕ)) → f ≡ f' → g ≡ g' → IsLeast (ConflictAt f g) found → IsLeast (ConflictAt f' g') found

@@ -1,2 +1,4 @@
-pub mod LeastLaws
 pub mod ConflictLaws
+pub mod OrderLaws
+pub mod ReachLaws
+pub mod SweepLaws

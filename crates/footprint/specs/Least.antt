@@ -1,5 +1,5 @@
 -- The least of the places, each a buffer and a byte of it, of which something holds.
-use Rattle.std.specs.Prelude.{ℕ, Option, None, Some, MatchOption}
+use Rattle.std.specs.Prelude.{ℕ, Option, MatchOption}
 use Rattle.footprint.specs.Marks.{IsBefore}
 
 -- it holds of this place and of none before it, or of none at all
@@ -8,9 +8,3 @@ IsLeast P found =
     MatchOption found
     ((buffer byte : ℕ) → ¬ P buffer byte)
     (λ place. P place.0 place.1 × ((buffer byte : ℕ) → IsBefore buffer byte place → ¬ P buffer byte))
-
--- the first isn't after the second, where any place is before none
-abbrev pub IsNotAfter : Option (ℕ × ℕ) → Option (ℕ × ℕ) → Type 0
-IsNotAfter p None = Unit {0}
-IsNotAfter None (Some q) = ⊥
-IsNotAfter (Some p) (Some q) = ¬ IsBefore q.0 q.1 p

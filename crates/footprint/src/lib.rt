@@ -4,6 +4,8 @@
 mod conflicts;
 mod laws;
 mod marks;
+mod order;
+mod reach;
 
 pub use conflicts::conflict;
 pub use laws::law_conflicts;

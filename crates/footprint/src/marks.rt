@@ -1,7 +1,8 @@
 //! The bytes that are read and the bytes that are written, kept as marked ranges.
 
-ghost use Rattle.std.specs.Prelude.{◌≡◌, ◌≤◌, OnOk, OnErr, IsOk, []};
+ghost use Rattle.std.specs.Prelude.{◌≡◌, ℕ, ◌<◌, ◌≤◌, OnOk, OnErr, IsOk, [], length, IsTrue, ◌↔◌};
 
+use crate::order::place_of;
 use std::alloc::{AllocError, Global};
 use std::marker::Model;
 
@@ -24,9 +25,21 @@ pub struct Mark {
     pub to: u32,
 }
 
+impl Mark {
+    ghost use Rattle.footprint.specs.Order.{IsNoLater};
+
+    /// Whether it begins in a lesser buffer, or in the same one at no later byte.
+    pub(crate) fn is_no_later(&self, other: &Mark) -> bool
+        ensures { IsTrue result ↔ IsNoLater self.now other.now }
+    {
+        self.buffer < other.buffer || self.buffer == other.buffer && self.from <= other.from
+    }
+}
+
 /// The bytes of numbered buffers that are read and those that are written, by a work-item or a QPU.
 ///
-/// The bytes of a buffer count from 0. The order of the calls and what they add twice make no difference.
+/// The bytes of a buffer count from 0. The order of the calls and what they add twice make no difference. The marks are
+/// kept in the order of their buffers and their first bytes.
 #[derive(Drop)]
 pub struct Footprint {
     pub(crate) marks: Vec<Mark>,
@@ -39,6 +52,10 @@ impl Model for Footprint {
     ghost Value = { List Mark };
 
     ghost view = { λ f. f.marks.items };
+
+    ghost use Rattle.footprint.specs.Order.{IsOrdered};
+
+    ghost invariant = { λ f. IsOrdered f.marks.items };
 }
 
 impl Footprint {
@@ -79,12 +96,14 @@ impl Footprint {
         ensures no_bytes { to ≤ from → IsOk result × (self.new ≡ self.old) }
     {
         if from < to {
-            self.marks.push(Mark {
+            let mark = Mark {
                 how,
                 buffer,
                 from,
                 to,
-            })?;
+            };
+            let at = place_of(&self.marks, &mark);
+            self.marks.insert(at, mark)?;
         }
         Ok(())
     }

@@ -1,0 +1,5 @@
+pub mod Reads
+pub mod Writes
+pub mod PairForm
+pub mod PairMeaning
+pub mod PairSaid

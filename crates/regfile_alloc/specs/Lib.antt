@@ -1,0 +1,10 @@
+pub mod Code
+pub mod Law
+pub mod Picks
+pub mod Rows
+pub mod Spill
+pub mod Allocated
+pub mod Asides
+pub mod Quiet
+pub mod Checked
+pub mod Outcome

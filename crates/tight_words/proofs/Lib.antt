@@ -1,0 +1,7 @@
+pub mod Any
+pub mod Profile
+pub mod Signal
+pub mod Same
+pub mod Canon
+pub mod Find
+pub mod Decide

@@ -1,0 +1,5 @@
+pub mod Meaning
+pub mod Registers
+pub mod Code
+pub mod Joint
+pub mod Tight

@@ -1,0 +1,6 @@
+pub mod Around
+pub mod Meaning
+pub mod Runs
+pub mod OneWord
+pub mod Valid
+pub mod Operations

@@ -1,0 +1,13 @@
+//! The code of each access of a batch: loads, stores and private arrays.
+#![tactic(auto)]
+
+mod access;
+mod blocks;
+mod elements;
+mod names;
+mod operations;
+mod parts;
+mod walk;
+
+pub use access::{Access, AccessList};
+pub use walk::{Memory, accesses};
