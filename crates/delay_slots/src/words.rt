@@ -1,7 +1,7 @@
 //! Words that hold no operation of a pair.
 
 use qpu_encode::{
-    AddOp, AddPart, BraCond, Cond, Form, Head, Instr, MulOp, MulPart, encode, is_fine,
+    AddOp, AddPart, BraCond, Cond, Form, Head, Instr, MulOp, MulPart, encode, is_in_profile,
 };
 use std::alloc::AllocError;
 
@@ -49,7 +49,7 @@ fn still() -> Instr {
 
 /// The instruction of a form. Each form that is made here is in the profile.
 pub fn instr_of(form: Form) -> Instr {
-    if is_fine(&form) {
+    if is_in_profile(&form) {
         Instr { form }
     } else {
         still()

@@ -7,7 +7,7 @@ ghost use Rattle.qpu_encode.specs.WordFields.{is_in_profile};
 use crate::form::form_of_pair;
 use crate::meaning::{is_in_place, meaning_of_pair};
 use phys_ir::{PSrc, Pair, Pop};
-use qpu_encode::{AddOp, Form, is_fine};
+use qpu_encode::{AddOp, Form, is_in_profile};
 use tight_words::{mean_the_same, meaning_of};
 use vop_ir::Op;
 
@@ -75,5 +75,5 @@ pub fn is_pair(pair: &Pair) -> bool
     ensures { result ≡ spec.is_pair pair.now }
 {
     let form = form_of_pair(pair);
-    is_in_place(pair) && (is_fine(&form) && says(pair, &form))
+    is_in_place(pair) && (is_in_profile(&form) && says(pair, &form))
 }

@@ -15,5 +15,5 @@ pub use form::{AddOp, AddPart, BraCond, Cond, Form, Head, MulOp, MulPart};
 pub use instr::Instr;
 pub use laws::{law_fields, law_words};
 pub use operations::{add_value, holds, mul_value, passes, rotation, small_word, unpacked};
-pub use profile::is_fine;
+pub use profile::is_in_profile;
 pub use words::{decode, encode};

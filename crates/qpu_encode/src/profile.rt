@@ -2,7 +2,8 @@
 
 ghost use Rattle.std.specs.Prelude.{◌≡◌, not, slice_index};
 ghost use Rattle.qpu_encode.specs.Codes.{add_code, mul_code, cond_code, head_code};
-ghost use Rattle.qpu_encode.specs.WordFields.{is_selector, is_port, is_acc, is_target, is_source, is_part, is_small, is_unpack, is_flagged, is_in_profile, is_distance};
+ghost use Rattle.qpu_encode.specs.WordFields.{is_selector, is_port, is_acc, is_target, is_source, is_part, is_small, is_unpack, is_flagged, is_distance};
+ghost use Rattle.qpu_encode.specs.WordFields as spec;
 
 use crate::codes::{add_code_of, cond_code_of, head_code_of, mul_code_of};
 use crate::form::Form;
@@ -96,8 +97,8 @@ fn distance(words: i32) -> bool
 
 /// The form is in the profile.
 #[tactic(auto, unfolding(crate::specs::WordFields::is_in_profile))]
-pub fn is_fine(form: &Form) -> bool
-    ensures { result ≡ is_in_profile form.now }
+pub fn is_in_profile(form: &Form) -> bool
+    ensures { result ≡ spec.is_in_profile form.now }
 {
     match *form {
         Form::Alu {

@@ -12,7 +12,7 @@ use crate::codes::{
 use crate::field::Field;
 use crate::form::{AddPart, BraCond, Cond, Form, Head, MulPart};
 use crate::instr::Instr;
-use crate::profile::is_fine;
+use crate::profile::is_in_profile;
 
 fn byte<const LO: u32, const W: u32>(word: u64) -> u8
     requires width { W ≤ 8 }
@@ -56,7 +56,7 @@ fn alu(word: u64) -> Option<Instr>
         ra: byte::<18, 6>(word),
         rb: byte::<12, 6>(word),
     };
-    if (byte::<56, 1>(word) == 0 && byte::<52, 4>(word) == 0) && is_fine(&form) {
+    if (byte::<56, 1>(word) == 0 && byte::<52, 4>(word) == 0) && is_in_profile(&form) {
         Some(Instr { form })
     } else {
         None
@@ -78,7 +78,7 @@ fn ldi(word: u64) -> Option<Instr>
         value: Field::<0, 32>::get(word) as u32,
     };
     if ((byte::<60, 4>(word) == 14 && byte::<52, 8>(word) == 0) && byte::<45, 1>(word) == 0)
-        && is_fine(&form)
+        && is_in_profile(&form)
     {
         Some(Instr { form })
     } else {
@@ -120,7 +120,7 @@ fn bra(word: u64) -> Option<Instr>
         && ((byte::<45, 5>(word) == 0 && byte::<50, 1>(word) == 0)
             && (byte::<51, 1>(word) == 1
                 && (byte::<56, 4>(word) == 0 && byte::<60, 4>(word) == 15))))
-        && is_fine(&form)
+        && is_in_profile(&form)
     {
         Some(Instr { form })
     } else {

@@ -11,7 +11,7 @@ use crate::meaning::{
     source_a, source_b,
 };
 use crate::registers::{clashes, free, other_form};
-use qpu_encode::{AddPart, Form, Head, MulPart, is_fine};
+use qpu_encode::{AddPart, Form, Head, MulPart, is_in_profile};
 
 fn picked(ra: u8, s: Source) -> u8
     ensures { result ≡ pick ra s }
@@ -101,7 +101,7 @@ fn may_stand(words: &[u64], i: usize, m: &Meaning, j: Form) -> bool
     ensures { result ≡ stands words.now i m.now j }
 {
     let there = Some(j);
-    ((mean_the_same(&meaning_of(&j), m) && is_fine(&j))
+    ((mean_the_same(&meaning_of(&j), m) && is_in_profile(&j))
         && (!clashes(&form_back(words, i, 1), &there) && !clashes(&there, &form(words, i + 2))))
         && !clashes_of_jumps(words, i, &there)
 }
