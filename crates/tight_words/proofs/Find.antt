@@ -261,13 +261,13 @@ read_a_of small rb ra h =
         | inl q ↦ elim (or_cases (ra == 39) (ra == 32) q) [
           | inl e ↦ rw (eq_is ra 39 e) refl
           | inr e ↦ rw (eq_is ra 32 e, one_and (not small && (rb == 32))) refl
-          ]
-        | inr e ↦ rw (eq_is ra 48 e, one_and (not small && (rb == 48))) refl
         ]
+        | inr e ↦ rw (eq_is ra 48 e, one_and (not small && (rb == 48))) refl
+      ]
       | inr p ↦ elim (or_cases (ra == 50) (ra == 51) p) [
         | inl e ↦ rw (eq_is ra 50 e) refl
         | inr e ↦ rw (eq_is ra 51 e, one_and (not small && (rb == 51))) refl
-        ]
+      ]
     ]
 
 read_b_of : (ra rb : ℕ) → is_common rb ≡ true → is_read_b (reads_of false ra rb) rb ≡ true
@@ -277,13 +277,13 @@ read_b_of ra rb h =
         | inl q ↦ elim (or_cases (rb == 39) (rb == 32) q) [
           | inl e ↦ rw (eq_is rb 39 e) refl
           | inr e ↦ rw (eq_is rb 32 e, and_one (ra == 32)) refl
-          ]
-        | inr e ↦ rw (eq_is rb 48 e, and_one (ra == 48)) refl
         ]
+        | inr e ↦ rw (eq_is rb 48 e, and_one (ra == 48)) refl
+      ]
       | inr p ↦ elim (or_cases (rb == 50) (rb == 51) p) [
         | inl e ↦ rw (eq_is rb 50 e) refl
         | inr e ↦ rw (eq_is rb 51 e, and_one (ra == 51)) refl
-        ]
+      ]
     ]
 
 useful_by_reads_a : (m : Meaning) (small : Bool) (ra rb : ℕ) → m.reads ≡ reads_of small ra rb → is_common ra ≡ true → is_useful_a m ra ≡ true
