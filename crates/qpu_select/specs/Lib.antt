@@ -1,0 +1,4 @@
+pub mod Code
+pub mod Clears
+pub mod Whole
+pub mod Emitting

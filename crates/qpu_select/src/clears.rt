@@ -1,0 +1,69 @@
+//! Registers that are cleared before an outermost statement.
+
+ghost use Rattle.std.specs.Prelude.{◌≡◌, ◌++◌, ◌∷◌, [], ℕ, List, IfOk, map, if◌then◌else◌};
+ghost use Rattle.qpu_select.specs.Code.{HasRoom};
+ghost use Rattle.qpu_select.specs.Clears.{clear as clear_of, cleared, cleared_by, written, writes, Marks};
+
+use crate::registers::Memory;
+use crate::shape::Shape;
+use crate::write::Write;
+use crate::writes::put_writes;
+use lane_ir::LaneStmt;
+use std::alloc::{AllocError, Global};
+use vop_ir::{Dst, Src, Vop, copy};
+
+/// Clears a register, where it is to be.
+fn put_where(ops: &mut Vec<Vop>, is_new: bool, reg: u32) -> Result<(), Memory>
+    ensures { IfOk result (λ _. ops.new.items ≡ ops.old.items ++ (if is_new then clear_of reg ∷ [] else [])) }
+{
+    if is_new {
+        ops.push(copy(Dst::Reg(reg), Src::Small(0)))?;
+    }
+    Ok(())
+}
+
+/// Clears the register of a write, where it is the first and in some lanes only. The flags say which registers were written before.
+fn put_clear(ops: &mut Vec<Vop>, flags: &mut Vec<bool>, w: Write) -> Result<(), Memory>
+    ensures code { (seen : List ℕ) → Marks flags.old.items seen
+        → IfOk result (λ _. ops.new.items ≡ ops.old.items ++ map clear_of (cleared_by seen w)) }
+    ensures marks { (seen : List ℕ) → Marks flags.old.items seen → IfOk result (λ _. Marks flags.new.items (w.reg ∷ seen)) }
+{
+    let at = w.reg as usize;
+    if at >= flags.len() {
+        return Err(AllocError);
+    }
+    let is_first = !flags[at];
+    flags[at] = true;
+    put_where(ops, w.in_part && is_first, w.reg)
+}
+
+/// Clears the registers of writes that are the first and in some lanes only.
+fn put_clears(ops: &mut Vec<Vop>, flags: &mut Vec<bool>, list: &[Write]) -> Result<(), Memory>
+    ensures code { (seen : List ℕ) → Marks flags.old.items seen
+        → IfOk result (λ _. ops.new.items ≡ ops.old.items ++ map clear_of (cleared seen list.now)) }
+    ensures marks { (seen : List ℕ) → Marks flags.old.items seen → IfOk result (λ _. Marks flags.new.items (written seen list.now)) }
+{
+    for w in list {
+        put_clear(ops, flags, *w)?;
+    }
+    Ok(())
+}
+
+/// Clears what an outermost statement writes first and in some lanes only.
+pub fn put_cleared(
+    alloc: Global,
+    ops: &mut Vec<Vop>,
+    flags: &mut Vec<bool>,
+    h: Shape,
+    stmt: &LaneStmt,
+) -> Result<(), Memory>
+    requires { HasRoom h }
+    ensures code { (seen : List ℕ) → Marks flags.old.items seen
+        → IfOk result (λ _. ops.new.items ≡ ops.old.items ++ map clear_of (cleared seen (writes h stmt.now))) }
+    ensures marks { (seen : List ℕ) → Marks flags.old.items seen
+        → IfOk result (λ _. Marks flags.new.items (written seen (writes h stmt.now))) }
+{
+    let mut list = Vec::new(alloc);
+    put_writes(&mut list, h, stmt)?;
+    put_clears(ops, flags, &list)
+}
