@@ -21,7 +21,7 @@ use Rattle.promise.specs.declared.refusal.SourceRule.{SourceRule}
 use Rattle.promise.specs.declared.refusal.Refusal.{Refusal}
 use Rattle.promise.specs.declared.refusal.Refusal.TheVariants.{Rule as Refused}
 use Rattle.clc_front.specs.declared.wanted.WantedKernel.{WantedKernel}
-use Rattle.clc_front.specs.Profile.{place_of, IsSpelled, IsTyped, IsWanted, HasKernel, IsFirstViolation}
+use Rattle.clc_front.specs.Profile.{place_of, IsSpelled, IsTyped, HasKernel, IsFirstViolation}
 
 -- ---- sizes
 
@@ -146,14 +146,8 @@ kernel_within fs x k e =
     let less = at.4 in
     omega (arith, same, less)
 
-pub wanted : (functions : List TFunction) (x : List ℕ) (k : ℕ) (f : TFunction) → kernel_of 0 functions x ≡ Some k → f ≡ get_or functions k f → IsWanted functions x f
-wanted functions x k f e is = record { number = k; named = e; there = kernel_there functions x k f e is }
-
-pub wanted_at : (source x : List ℕ) (functions : List TFunction) (k : ℕ) (f : TFunction) → HasKernel source x functions k → f ≡ get_or functions k f → IsWanted functions x f
-wanted_at source x functions k f h is = wanted functions x k f h.named is
-
-pub kernel_of_wanted : (source x : List ℕ) (functions : List TFunction) (f : TFunction) → IsTyped source functions → (w : IsWanted functions x f) → HasKernel source x functions w.number
-kernel_of_wanted source x functions f h w = record { is_typed = h; named = w.named; there = kernel_within functions x w.number w.named }
+pub there_at : (source x : List ℕ) (functions : List TFunction) (k : ℕ) (f : TFunction) → HasKernel source x functions k → f ≡ get_or functions k f → slice_get functions k ≡ Some f
+there_at source x functions k f h is = kernel_there functions x k f h.named is
 
 -- a kernel that is handed on is the same
 pub kernel_kept : (source kernel : List ℕ) (functions : List TFunction) (number : ℕ) (result : Result WantedKernel Refusal) → HasKernel source kernel functions number

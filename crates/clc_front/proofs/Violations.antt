@@ -19,10 +19,12 @@ use Rattle.clc_types.specs.declared.type_rule.TypeRule.TheVariants.{S1, S2, S3, 
 use Rattle.clc_types.specs.declared.typed.TFunction.{TFunction}
 use Rattle.clc_types.specs.Judged.{Judged, Fine, Faulty, faults_of, rank, Before, IsLeast}
 use Rattle.clc_types.specs.Programs.{program, kernel_of}
+use Rattle.clc_counts.specs.Counts.{tally_of}
+use Rattle.clc_counts.specs.Limits.{IsWithin}
 use Rattle.promise.specs.declared.refusal.SourceRule.{SourceRule}
 use Rattle.promise.specs.declared.refusal.Refusal.{Refusal}
 use Rattle.promise.specs.declared.refusal.Refusal.TheVariants.{Rule, Memory}
-use Rattle.clc_front.specs.Profile.{lexical_rule, grammar_rule, typing_rule, place_of, IsSpelled, IsProgram, IsTyped, IsWanted, HasKernel, IsFirstViolation, bytes, grammar, typing, no_kernel}
+use Rattle.clc_front.specs.Profile.{lexical_rule, grammar_rule, typing_rule, place_of, IsSpelled, IsProgram, IsTyped, HasKernel, IsOverLimit, nodes, elements, IsTooLarge, IsFirstViolation, bytes, grammar, typing, no_kernel, too_large}
 use Rattle.clc_front.specs.declared.wanted.WantedKernel.{WantedKernel}
 use Rattle.clc_front.specs.Laws.{SourcesAreJudgedOnce}
 
@@ -53,15 +55,31 @@ named_once n a b h g = cc
 there_once : (f : Option TFunction) (a b : TFunction) → f ≡ Some a → f ≡ Some b → a ≡ b
 there_once f a b h g = cc
 
-same_wanted : (typed : List TFunction) (kernel : List ℕ) (a b : TFunction) → IsWanted typed kernel a → IsWanted typed kernel b → a ≡ b
-same_wanted typed kernel a b h g =
-    let same : h.number ≡ g.number = named_once (kernel_of 0 typed kernel) h.number g.number h.named g.named in
-    there_once (slice_get typed g.number) a b (subst (λ n. slice_get typed n ≡ Some a) same h.there) g.there
+same_number : (source kernel : List ℕ) (t u : List TFunction) (n m : ℕ) → IsTyped source t → kernel_of 0 t kernel ≡ Some n → IsTyped source u → kernel_of 0 u kernel ≡ Some m
+    → (t ≡ u) × (n ≡ m)
+same_number source kernel t u n m h named g other =
+    let same : t ≡ u = same_typed source t u h g in
+    (same, named_once (kernel_of 0 u kernel) n m (subst (λ x. kernel_of 0 x kernel ≡ Some n) same named) other)
 
--- the wanted kernels of two typed trees of a source
-pub same_function : (source kernel : List ℕ) (t u : List TFunction) (a b : TFunction) → IsTyped source t → IsTyped source u → IsWanted t kernel a → IsWanted u kernel b → a ≡ b
-same_function source kernel t u a b h g w v =
-    same_wanted u kernel a b (subst (λ x. IsWanted x kernel a) (same_typed source t u h g) w) v
+-- the kernels at the same place
+pub same_function : (t u : List TFunction) (n m : ℕ) (a b : TFunction) → t ≡ u → n ≡ m → slice_get t n ≡ Some a → slice_get u m ≡ Some b → a ≡ b
+same_function t u n m a b same number h g =
+    there_once (slice_get u m) a b (subst (λ fs. slice_get fs m ≡ Some a) same (subst (λ k. slice_get t k ≡ Some a) number h)) g
+
+-- ---- limits
+
+over_lawful : (functions : List TFunction) (number : ℕ) (rule : SourceRule) → IsWithin (tally_of functions number) → IsOverLimit functions number rule → ⊥
+over_lawful functions number rule within (nodes many) = let few = within.0 in omega (arith, few, many)
+over_lawful functions number rule within (elements some many) = let few = within.1 in omega (arith, few, many)
+
+one_limit : (functions : List TFunction) (number : ℕ) (rule other : SourceRule) → IsOverLimit functions number rule → IsOverLimit functions number other → rule ≡ other
+one_limit functions number rule other (nodes many) (nodes more) = refl
+one_limit functions number rule other (nodes many) (elements few more) = absurd (omega (arith, many, few))
+one_limit functions number rule other (elements few more) (nodes many) = absurd (omega (arith, many, few))
+one_limit functions number rule other (elements few more) (elements some much) = refl
+
+moved : (t u : List TFunction) (n m : ℕ) (rule : SourceRule) (at : ℕ) → t ≡ u → n ≡ m → IsTooLarge t n rule at → IsTooLarge u m rule at
+moved t u n m rule at same number h = subst (λ fs. IsTooLarge fs m rule at) same (subst (λ k. IsTooLarge t k rule at) number h)
 
 -- a number is that of one rule; none has the number 0
 abbrev rules : List TypeRule
@@ -134,6 +152,16 @@ module _ (source kernel : List ℕ) where
   lawful_none typed number rule at h (grammar ts reason k spelled fault) = program_lawful ts h.is_typed.tokens reason k h.is_typed.tree spelled fault h.is_typed.is_program
   lawful_none typed number rule at h (typing ts tree one more first is_program faulty least) = typed_lawful ts tree one more typed is_program faulty h.is_typed
   lawful_none typed number rule at h (no_kernel other is_typed none) = name_found other typed number is_typed none h.is_typed h.named
+  lawful_none typed number rule at h (too_large other n r p is_typed named large) =
+      let same = same_number source kernel other typed n number is_typed named h.is_typed h.named in
+      over_lawful typed number r h.within (moved other typed n number r p same.0 same.1 large).over
+
+  one_size : (t u : List TFunction) (n m : ℕ) (r s : SourceRule) (p q : ℕ) → IsTyped source t → kernel_of 0 t kernel ≡ Some n → IsTooLarge t n r p
+      → IsTyped source u → kernel_of 0 u kernel ≡ Some m → IsTooLarge u m s q → (r ≡ s) × (p ≡ q)
+  one_size t u n m r s p q h named f g other d =
+      let same = same_number source kernel t u n m h named g other in
+      let here : IsTooLarge u m r p = moved t u n m r p same.0 same.1 f in
+      (one_limit u m r s here.over d.over, here.place ∙ ap (λ x. x.at) (same_function u u m m here.function d.function refl refl here.there d.there) ∙ sym d.place)
 
   abbrev Same : SourceRule → ℕ → SourceRule → ℕ → Type 0
   Same rule at other place = (rule ≡ other) × (at ≡ place)
@@ -149,6 +177,7 @@ module _ (source kernel : List ℕ) where
   one_violation rule other at place (bytes r p f) (grammar ts why k h g) = absurd (spelled_lawful r p ts f h)
   one_violation rule other at place (bytes r p f) (typing ts tree one more first h d g) = absurd (spelled_lawful r p ts f h.spelled)
   one_violation rule other at place (bytes r p f) (no_kernel t h g) = absurd (spelled_lawful r p h.tokens f h.is_program.spelled)
+  one_violation rule other at place (bytes r p f) (too_large t n s q h named g) = absurd (spelled_lawful r p h.tokens f h.is_program.spelled)
   one_violation rule other at place (grammar ts why k h g) (bytes r p f) = absurd (spelled_lawful r p ts f h)
   one_violation rule other at place (grammar ts why j h f) (grammar us reason k i g) =
       let tokens = same_tokens source ts us h i in
@@ -156,6 +185,7 @@ module _ (source kernel : List ℕ) where
       (ap grammar_rule same.0, ap (λ vs. place_of source vs j) tokens ∙ ap (place_of source us) same.1)
   one_violation rule other at place (grammar ts why j h f) (typing us tree one more first i d g) = absurd (program_lawful ts us why j tree h f i)
   one_violation rule other at place (grammar ts why j h f) (no_kernel t i g) = absurd (program_lawful ts i.tokens why j i.tree h f i.is_program)
+  one_violation rule other at place (grammar ts why j h f) (too_large t n s q i named g) = absurd (program_lawful ts i.tokens why j i.tree h f i.is_program)
   one_violation rule other at place (typing ts tree one more first h d g) (bytes r p f) = absurd (spelled_lawful r p ts f h.spelled)
   one_violation rule other at place (typing us tree one more first i d g) (grammar ts why j h f) = absurd (program_lawful ts us why j tree h f i)
   one_violation rule other at place (typing ts tree one more first h d f) (typing us root two rest least i e g) =
@@ -163,15 +193,20 @@ module _ (source kernel : List ℕ) where
       let same = same_fault ts us tree root one two more rest first least h i d e f g in
       (ap (λ x. typing_rule x.rule) same, ap (λ vs. place_of source vs first.token) tokens ∙ ap (λ x. place_of source us x.token) same)
   one_violation rule other at place (typing ts tree one more first h d f) (no_kernel t i g) = absurd (typed_lawful ts tree one more t h d i)
+  one_violation rule other at place (typing ts tree one more first h d f) (too_large t n s q i named g) = absurd (typed_lawful ts tree one more t h d i)
   one_violation rule other at place (no_kernel t h g) (bytes r p f) = absurd (spelled_lawful r p h.tokens f h.is_program.spelled)
   one_violation rule other at place (no_kernel t i g) (grammar ts why j h f) = absurd (program_lawful ts i.tokens why j i.tree h f i.is_program)
   one_violation rule other at place (no_kernel t i g) (typing ts tree one more first h d f) = absurd (typed_lawful ts tree one more t h d i)
   one_violation rule other at place (no_kernel t h f) (no_kernel u i g) = (refl, refl)
+  one_violation rule other at place (no_kernel t h f) (too_large u n s q i named g) = absurd (name_found t u n h f i named)
+  one_violation rule other at place (too_large t n r p h named f) (bytes s q g) = absurd (spelled_lawful s q h.tokens g h.is_program.spelled)
+  one_violation rule other at place (too_large t n r p i named g) (grammar ts why j h f) = absurd (program_lawful ts i.tokens why j i.tree h f i.is_program)
+  one_violation rule other at place (too_large t n r p i named g) (typing ts tree one more first h d f) = absurd (typed_lawful ts tree one more t h d i)
+  one_violation rule other at place (too_large u n r p i named g) (no_kernel t h f) = absurd (name_found t u n h f i named)
+  one_violation rule other at place (too_large t n r p h named f) (too_large u m s q g other_named d) = one_size t u n m r s p q h named f g other_named d
 
-same_kernel : (source kernel : List ℕ) (t u : List TFunction) (n k : ℕ) → HasKernel source kernel t n → HasKernel source kernel u k → (t ≡ u) × (n ≡ k)
-same_kernel source kernel t u n k h g =
-    let same : t ≡ u = same_typed source t u h.is_typed g.is_typed in
-    (same, named_once (kernel_of 0 u kernel) n k (subst (λ x. kernel_of 0 x kernel ≡ Some n) same h.named) g.named)
+pub same_kernel : (source kernel : List ℕ) (t u : List TFunction) (n k : ℕ) → HasKernel source kernel t n → HasKernel source kernel u k → (t ≡ u) × (n ≡ k)
+same_kernel source kernel t u n k h g = same_number source kernel t u n k h.is_typed h.named g.is_typed g.named
 
 pub judged_once : SourcesAreJudgedOnce
 judged_once = record {

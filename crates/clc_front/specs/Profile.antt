@@ -1,6 +1,6 @@
 -- Which sources have a kernel of a name, and the rule that another one violates first. OpenCL C 1.2, section 6: the tokens, the grammar and the typing
 -- rules are those of the front end's crates. The classes of rules and their order are this project's own.
-use Rattle.std.specs.Prelude.{◌≡◌, ℕ, zero, suc, ◌<◌, List, [], ◌∷◌, length, slice_get, Some, None}
+use Rattle.std.specs.Prelude.{◌≡◌, ℕ, zero, suc, ◌<◌, ◌≤◌, List, [], ◌∷◌, length, slice_get, Some, None}
 use Rattle.clc_lexer.specs.declared.token.Token.{Token}
 use Rattle.clc_lexer.specs.declared.token.LexRule.{LexRule}
 use Rattle.clc_lexer.specs.declared.token.LexRule.TheVariants as lex
@@ -14,8 +14,10 @@ use Rattle.clc_types.specs.declared.type_rule.TypeRule.TheVariants as t
 use Rattle.clc_types.specs.declared.typed.TFunction.{TFunction}
 use Rattle.clc_types.specs.Judged.{Fine, Faulty, IsLeast}
 use Rattle.clc_types.specs.Programs.{program, kernel_of}
+use Rattle.clc_counts.specs.Counts.{tally_of}
+use Rattle.clc_counts.specs.Limits.{IsWithin}
 use Rattle.promise.specs.declared.refusal.SourceRule.{SourceRule}
-use Rattle.promise.specs.declared.refusal.SourceRule.TheVariants.{L1, L2, L3, L4, L5, G1, G2, S1, S2, S3, S4, S5, S6, S7, S8, S9, S10, S11, S12, S13, S14, K1}
+use Rattle.promise.specs.declared.refusal.SourceRule.TheVariants.{L1, L2, L3, L4, L5, G1, G2, S1, S2, S3, S4, S5, S6, S7, S8, S9, S10, S11, S12, S13, S14, K1, N1, N2}
 
 -- ---- the rules under their names here
 
@@ -71,20 +73,29 @@ pub record IsTyped (source : List ℕ) (functions : List TFunction) : Type 0 whe
   pub is_program : IsProgram source tokens tree
   pub fine : program tree ≡ Fine functions
 
--- the kernel of that name is this function
-pub record IsWanted (functions : List TFunction) (kernel : List ℕ) (function : TFunction) : Type 0 where
-  pub number : ℕ
-  pub named : kernel_of 0 functions kernel ≡ Some number
-  pub there : slice_get functions number ≡ Some function
-
--- no rule is violated for a kernel of that name: these are the functions of the typed tree, and the kernel stands at this place among them
+-- no rule is violated for a kernel of that name: these are the functions of the typed tree, and the kernel stands at this place among them, within
+-- the limits of its nodes and of the elements of its private arrays
 pub record HasKernel (source kernel : List ℕ) (functions : List TFunction) (number : ℕ) : Type 0 where
   pub is_typed : IsTyped source functions
   pub named : kernel_of 0 functions kernel ≡ Some number
   pub there : number < length functions
+  pub within : IsWithin (tally_of functions number)
 
--- The first violated rule and its offset. Rules on bytes come first, then those of the grammar, the typing rules and the name of the kernel; of one
--- class the first is that of the class
+-- the kernel of this number, each call counted with the called body, has more nodes than a kernel may have; or else its private arrays, counted in the
+-- same way, have more elements
+pub data IsOverLimit (functions : List TFunction) (number : ℕ) : SourceRule → Type 0 where
+  nodes : 16384 < (tally_of functions number).nodes → IsOverLimit functions number N1
+  elements : (tally_of functions number).nodes ≤ 16384 → 1024 < (tally_of functions number).elements → IsOverLimit functions number N2
+
+-- so it violates this rule at its name
+pub record IsTooLarge (functions : List TFunction) (number : ℕ) (rule : SourceRule) (at : ℕ) : Type 0 where
+  pub function : TFunction
+  pub there : slice_get functions number ≡ Some function
+  pub place : at ≡ function.at
+  pub over : IsOverLimit functions number rule
+
+-- The first violated rule and its offset. Rules on bytes come first, then those of the grammar, the typing rules, the name of the kernel and its size; of
+-- one class the first is that of the class
 pub data IsFirstViolation (source kernel : List ℕ) : SourceRule → ℕ → Type 0 where
   bytes : (rule : LexRule) (at : ℕ) → IsFirstFault source rule at → IsFirstViolation source kernel (lexical_rule rule) at
   grammar : (tokens : List Token) (reason : Reason) (k : ℕ) → IsSpelled source tokens → FaultAt 65 reason k tokens
@@ -92,3 +103,5 @@ pub data IsFirstViolation (source kernel : List ℕ) : SourceRule → ℕ → Ty
   typing : (tokens : List Token) (tree : Tree) (one : Fault) (more : List Fault) (first : Fault) → IsProgram source tokens tree
       → program tree ≡ Faulty one more → IsLeast first (one ∷ more) → IsFirstViolation source kernel (typing_rule first.rule) (place_of source tokens first.token)
   no_kernel : (functions : List TFunction) → IsTyped source functions → kernel_of 0 functions kernel ≡ None → IsFirstViolation source kernel K1 0
+  too_large : (functions : List TFunction) (number : ℕ) (rule : SourceRule) (at : ℕ) → IsTyped source functions → kernel_of 0 functions kernel ≡ Some number
+      → IsTooLarge functions number rule at → IsFirstViolation source kernel rule at

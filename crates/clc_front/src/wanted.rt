@@ -1,16 +1,19 @@
 //! From a source and the name of a kernel to its typed tree.
 
-ghost use Rattle.std.specs.Prelude.{◌≡◌, ◌⊎◌, ℕ, List, Ok, Err, IfOk, IfErr};
+ghost use Rattle.std.specs.Prelude.{◌≡◌, ◌⊎◌, ◌<◌, ℕ, List, Ok, Err, IfOk, IfErr, OnOk, length};
+ghost use Rattle.clc_counts.specs.Counts.{tally_of};
+ghost use Rattle.clc_counts.specs.Limits.{IsWithin};
 ghost use Rattle.clc_types.specs.declared.typed.TFunction.{TFunction};
 ghost use Rattle.promise.specs.declared.refusal.SourceRule.{SourceRule as AnyRule};
 ghost use Rattle.clc_front.specs.declared.wanted.WantedKernel.{WantedKernel as AnyWanted};
-ghost use Rattle.clc_front.specs.Profile.{HasKernel, IsFirstViolation};
+ghost use Rattle.clc_front.specs.Profile.{HasKernel, IsFirstViolation, IsTooLarge};
 ghost use Rattle.clc_front.specs.Kinds.{kinds_at as kinds_at_number};
 
 use crate::kinds::kinds_at;
 use crate::sources::typed_tree;
 use clc_check::kernel as kernel_number;
-use clc_types::Typed;
+use clc_counts::{LimitFault, kernel_tally};
+use clc_types::{TFunction, Typed};
 use promise::{Refusal, SourceRule};
 use q_lane::Kind;
 use std::alloc::Global;
@@ -56,12 +59,32 @@ fn found(alloc: Global, source: &[u8], kernel: &[u8]) -> Result<WantedKernel, Re
 {
     let typed = typed_tree(alloc, source)?;
     match kernel_number(&typed, kernel) {
-        Some(kernel) => with_kinds(alloc, typed, kernel),
+        Some(kernel) => {
+            limit(alloc, typed.functions.as_slice(), kernel)?;
+            with_kinds(alloc, typed, kernel)
+        }
         None => Err(Refusal::Rule {
             rule: SourceRule::K1,
             at: 0,
         }),
     }
+}
+
+/// Refuses a kernel with more nodes, or with more elements in its private arrays, than a kernel may have.
+fn limit(alloc: Global, functions: &[TFunction], kernel: u32) -> Result<(), Refusal>
+    requires { kernel < length functions.now }
+    ensures ok { OnOk result (IsWithin (tally_of functions.now kernel)) }
+    ensures refused { (rule : AnyRule) (at : ℕ) → result ≡ Err (Refusal.Rule rule at)
+        → IsTooLarge functions.now kernel rule at }
+{
+    let rule = match kernel_tally(alloc, functions, kernel) {
+        Ok(_) => return Ok(()),
+        Err(LimitFault::N1 { .. }) => SourceRule::N1,
+        Err(LimitFault::N2 { .. }) => SourceRule::N2,
+        Err(LimitFault::Memory) => return Err(Refusal::Memory),
+    };
+    let at = functions[kernel as usize].at;
+    Err(Refusal::Rule { rule, at })
 }
 
 /// The typed tree and the number of the kernel, with the kinds of its parameters.

@@ -17,7 +17,6 @@ use Rattle.clc_types.specs.declared.typed.TStmt.TheVariants as st
 use Rattle.clc_types.specs.declared.typed.TFunction.{TFunction}
 use Rattle.clc_front.specs.Profile.{HasKernel}
 use Rattle.clc_front.specs.Kinds.{kind_of, kinds_of, kinds_at}
-use Rattle.clc_front.proofs.SourceSteps.{kernel_of_wanted}
 use Rattle.clc_front.proofs.Violations.{judged_once}
 use Rattle.item_meaning.specs.declared.values.Value.{Value}
 use Rattle.item_meaning.specs.ItemState.{State, then_do, node}
@@ -121,20 +120,18 @@ built_is_idle functions n f there built =
 -- the kernel of a source in the profile
 pub kernel_is_idle : (source name : List ℕ) (functions : List TFunction) (number : ℕ) → IsInProfile source name → HasKernel source name functions number → kernel_at functions number ≡ idle_kernel
 kernel_is_idle source name functions number lawful has =
-    let own = kernel_of_wanted source name lawful.functions lawful.function lawful.is_typed lawful.wanted in
-    let same = judged_once.same source name functions lawful.functions number lawful.wanted.number has own in
-    ap (λ fs. kernel_at fs number) same.0 ∙ ap (kernel_at lawful.functions) same.1 ∙ built_is_idle lawful.functions lawful.wanted.number lawful.function lawful.wanted.there lawful.built
+    let same = judged_once.same source name functions lawful.functions number lawful.number has lawful.wanted.has in
+    ap (λ fs. kernel_at fs number) same.0 ∙ ap (kernel_at lawful.functions) same.1 ∙ built_is_idle lawful.functions lawful.number lawful.function lawful.wanted.there lawful.built
 
 pub is_idle : (source name : List ℕ) (k : Kernel) → IsKernel source name k → k ≡ idle_kernel
 is_idle source name k is = is.is ∙ kernel_is_idle source name is.functions is.number is.lawful is.has
 
 pub idle_is_kernel : (source name : List ℕ) → IsInProfile source name → IsKernel source name idle_kernel
 idle_is_kernel source name lawful =
-    let own = kernel_of_wanted source name lawful.functions lawful.function lawful.is_typed lawful.wanted in
     record {
       lawful = lawful;
       functions = lawful.functions;
-      number = lawful.wanted.number;
-      has = own;
-      is = sym (built_is_idle lawful.functions lawful.wanted.number lawful.function lawful.wanted.there lawful.built);
+      number = lawful.number;
+      has = lawful.wanted.has;
+      is = sym (built_is_idle lawful.functions lawful.number lawful.function lawful.wanted.there lawful.built);
     }

@@ -3,38 +3,40 @@ use Rattle.std.proofs.Common.{◌≡◌, ℕ, List, Bool, true, false, refl, sym
 use Rattle.std.specs.Prelude.{◌⊎◌, Result, Ok, Err, IfOk}
 use Rattle.std.specs.Result.{IsErrAnd}
 use Rattle.clc_types.specs.declared.typed.TFunction.{TFunction}
-use Rattle.clc_front.specs.Profile.{IsTyped, IsWanted, HasKernel, IsFirstViolation as IsFirstOfFront}
-use Rattle.clc_front.proofs.SourceSteps.{kernel_of_wanted}
+use Rattle.clc_front.specs.Profile.{HasKernel, IsFirstViolation as IsFirstOfFront}
 use Rattle.clc_front.proofs.Violations.{same_function, judged_once}
 use Rattle.promise.specs.declared.refusal.SourceRule.{SourceRule}
 use Rattle.promise.specs.declared.refusal.Refusal.{Refusal}
 use Rattle.promise.specs.declared.refusal.Refusal.TheVariants.{Rule, Memory}
 use Rattle.promise.specs.Laws.{HasOneViolation}
-use Rattle.compile_pipe.specs.Profile.{is_built, IsInProfile, IsFirstViolation, of_front, unbuilt}
+use Rattle.compile_pipe.specs.Profile.{is_built, IsWanted, IsInProfile, IsFirstViolation, of_front, unbuilt}
 use Rattle.compile_pipe.specs.Kernels.{opencl}
 
 module _ (source kernel : List ℕ) where
-  form_built : (t u : List TFunction) (a b : TFunction) → IsTyped source t → IsWanted t kernel a → is_built a ≡ false → IsTyped source u → IsWanted u kernel b → is_built b ≡ true → ⊥
-  form_built t u a b h w unmade g v made =
-      let same : a ≡ b = same_function source kernel t u a b h g w v in
-      both (is_built b) (sym (ap is_built same) ∙ unmade) made
+  one_wanted : (t u : List TFunction) (n m : ℕ) (a b : TFunction) → IsWanted source kernel t n a → IsWanted source kernel u m b → a ≡ b
+  one_wanted t u n m a b w v =
+      let same = judged_once.same source kernel t u n m w.has v.has in
+      same_function t u n m a b same.0 same.1 w.there v.there
+
+  form_built : (t u : List TFunction) (n m : ℕ) (a b : TFunction) → IsWanted source kernel t n a → is_built a ≡ false → IsWanted source kernel u m b → is_built b ≡ true → ⊥
+  form_built t u n m a b w unmade v made = both (is_built b) (sym (ap is_built (one_wanted t u n m a b w v)) ∙ unmade) made
     where
       both : (c : Bool) → c ≡ false → c ≡ true → ⊥
       both c e d = cc
 
   -- a source that the front end takes violates none of its rules
-  front_none : (t : List TFunction) (f : TFunction) (rule : SourceRule) (at : ℕ) → IsTyped source t → IsWanted t kernel f → IsFirstOfFront source kernel rule at → ⊥
-  front_none t f rule at h w is = judged_once.none source kernel t w.number rule at (kernel_of_wanted source kernel t f h w) is
+  front_none : (t : List TFunction) (n : ℕ) (f : TFunction) (rule : SourceRule) (at : ℕ) → IsWanted source kernel t n f → IsFirstOfFront source kernel rule at → ⊥
+  front_none t n f rule at w is = judged_once.none source kernel t n rule at w.has is
 
   pub lawful_none : (rule : SourceRule) (at : ℕ) → IsInProfile source kernel → IsFirstViolation source kernel rule at → ⊥
-  lawful_none rule at h (of_front r place is) = front_none h.functions h.function r place h.is_typed h.wanted is
-  lawful_none rule at h (unbuilt typed function is_typed wanted unmade) = form_built typed h.functions function h.function is_typed wanted unmade h.is_typed h.wanted h.built
+  lawful_none rule at h (of_front r place is) = front_none h.functions h.number h.function r place h.wanted is
+  lawful_none rule at h (unbuilt typed n function wanted unmade) = form_built typed h.functions n h.number function h.function wanted unmade h.wanted h.built
 
   one_violation : (rule other : SourceRule) (at place : ℕ) → IsFirstViolation source kernel rule at → IsFirstViolation source kernel other place → (rule ≡ other) × (at ≡ place)
   one_violation rule other at place (of_front r p f) (of_front s q g) = judged_once.one source kernel r s p q f g
-  one_violation rule other at place (of_front r p f) (unbuilt t a h w g) = absurd (front_none t a r p h w f)
-  one_violation rule other at place (unbuilt t a h w g) (of_front r p f) = absurd (front_none t a r p h w f)
-  one_violation rule other at place (unbuilt t a h w f) (unbuilt u b i v g) = (refl, ap (λ x. x.at) (same_function source kernel t u a b h i w v))
+  one_violation rule other at place (of_front r p f) (unbuilt t n a w g) = absurd (front_none t n a r p w f)
+  one_violation rule other at place (unbuilt t n a w g) (of_front r p f) = absurd (front_none t n a r p w f)
+  one_violation rule other at place (unbuilt t n a w f) (unbuilt u m b v g) = (refl, ap (λ x. x.at) (one_wanted t u n m a b w v))
 
 -- what was refused is what is told
 pub told : {T : Type 0} (source kernel : List ℕ) (rule other : SourceRule) (at place : ℕ) → ◌≡◌ {A = Result T Refusal} (Err (Rule rule at)) (Err (Rule other place))

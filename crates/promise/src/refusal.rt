@@ -51,6 +51,10 @@ pub enum SourceRule {
     S14,
     /// Some kernel has the wanted name. The place is the first byte.
     K1,
+    /// The wanted kernel, each call counted with the called body, has at most 16,384 nodes. The place is its name.
+    N1,
+    /// Its private arrays, counted in the same way, have at most 1,024 elements. The place is its name.
+    N2,
     /// The wanted kernel has a form that is built so far: no parameters, and a body without statements. The place is its name.
     N0,
 }
@@ -83,6 +87,8 @@ impl SourceRule {
             SourceRule::S13 => b"S13",
             SourceRule::S14 => b"S14",
             SourceRule::K1 => b"K1",
+            SourceRule::N1 => b"N1",
+            SourceRule::N2 => b"N2",
             SourceRule::N0 => b"N0",
         }
     }

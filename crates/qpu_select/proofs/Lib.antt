@@ -1,3 +1,9 @@
 pub mod Lists
 pub mod Loops
 pub mod Clearing
+pub mod Parts
+pub mod Operations
+pub mod Pieces
+pub mod Statements
+pub mod Programs
+pub mod Accesses

@@ -1,8 +1,10 @@
 //! The whole: the opening, and the loop over batches.
 
-ghost use Rattle.std.specs.Prelude.{◌≡◌, ◌+◌, ◌++◌, IfOk, map, sum as sum_of};
+ghost use Rattle.std.specs.Prelude.{◌≡◌, ◌+◌, ◌++◌, true, IfOk, map, sum as sum_of};
+ghost use Rattle.lane_ir.specs.Batch.{is_valid as is_valid_batch};
+ghost use Rattle.vop_ir.specs.Valid.{is_valid};
 ghost use Rattle.vop_ir.specs.Runs.{block_from};
-ghost use Rattle.vpm_dma_lower.specs.Accesses.{code_from};
+ghost use Rattle.vpm_dma_lower.specs.Accesses.{code_from, codes_all};
 ghost use Rattle.qpu_select.specs.Code.{HasRoom, all_regs, shape_of};
 ghost use Rattle.qpu_select.specs.Whole.{takes as takes_of, work_regs, uniform_regs, more_batches as more_batches_of, next_batch as next_batch_of, batch as batch_of, program};
 ghost use Rattle.qpu_select.specs.Emitting.{start_of, Adds};
@@ -18,7 +20,7 @@ use crate::shape::Shape;
 use lane_ir::{LaneIr, LaneStmt};
 use qpu_encode::{AddOp, BraCond};
 use std::alloc::Global;
-use vop_ir::{Dst, Exit, Op, Src, Vop, VopIr, copy, flagged, plain};
+use vop_ir::{Dst, Exit, Op, Src, Vop, VopBlock, VopIr, copy, flagged, plain};
 use vpm_dma_lower::{Access, AccessList};
 
 /// A register takes the next uniform.
@@ -106,6 +108,32 @@ fn put_batch(
     put(&mut out.ops, &[next_batch(h)])
 }
 
+/// The opening, the loop over batches, and the end.
+fn put_program(
+    alloc: Global,
+    h: Shape,
+    list: &[Access],
+    body: &[LaneStmt],
+) -> Result<Vec<VopBlock>, Memory>
+    requires { HasRoom h }
+    ensures { IfOk result (λ r. map block_from r.items ≡ program h (map code_from list.now) body.now) }
+{
+    let mut out = Emitted {
+        closed: Vec::new(alloc),
+        ops: Vec::new(alloc),
+        next: 0,
+    };
+    put_uniforms(&mut out.ops, h)?;
+    let first = open(alloc, &mut out)?;
+    let at = out.closed.len();
+    let test = set_aside(alloc, &mut out, more_batches(h))?;
+    put_batch(alloc, &mut out, h, list, body)?;
+    put_back(alloc, &mut out, first, at, test, BraCond::AnyN)?;
+    close(alloc, &mut out, Exit::Stop)?;
+    let Emitted { closed, .. } = out;
+    Ok(closed)
+}
+
 /// The program of a batch's statements, done for each batch of a QPU, where `accesses` has the code of their accesses.
 ///
 /// # Errors
@@ -116,26 +144,17 @@ pub fn select(alloc: Global, ir: &LaneIr, accesses: &AccessList) -> Result<VopIr
     ensures rows { IfOk result (λ r. r.rows ≡ sum_of ir.now.arrays.items) }
     ensures scratch { IfOk result (λ r. r.scratch ≡ ir.now.vals) }
     ensures blocks { IfOk result (λ r. map block_from r.blocks.items ≡ program (shape_of ir.now) (map code_from accesses.now.list.items) ir.now.body.items) }
+    // Of a valid batch it names only what is there, where the code is that of the batch's accesses.
+    ensures valid { is_valid_batch ir.now ≡ true → map code_from accesses.now.list.items ≡ codes_all ir.now.vals ir.now.arrays.items ir.now.body.items
+        → IfOk result (λ r. is_valid r ≡ true) }
 {
     let h = shape(ir)?;
     let rows = rows(&ir.arrays)?;
-    let mut out = Emitted {
-        closed: Vec::new(alloc),
-        ops: Vec::new(alloc),
-        next: 0,
-    };
-    put_uniforms(&mut out.ops, h)?;
-    let first = open(alloc, &mut out)?;
-    let at = out.closed.len();
-    let test = set_aside(alloc, &mut out, more_batches(h))?;
-    put_batch(alloc, &mut out, h, &accesses.list, &ir.body)?;
-    put_back(alloc, &mut out, first, at, test, BraCond::AnyN)?;
-    close(alloc, &mut out, Exit::Stop)?;
-    let Emitted { closed, .. } = out;
+    let blocks = put_program(alloc, h, &accesses.list, &ir.body)?;
     Ok(VopIr {
         regs: all(h),
         rows,
         scratch: h.vals,
-        blocks: closed,
+        blocks,
     })
 }

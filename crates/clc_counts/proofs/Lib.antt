@@ -1,0 +1,2 @@
+pub mod Saturates
+pub mod Within

@@ -1,0 +1,3 @@
+pub mod Inlines
+pub mod Inlining
+pub mod InSetting
