@@ -4,6 +4,7 @@
 
 pub use crate::fault::RowFault;
 pub use crate::rows::Rows;
+pub use crate::value::{Names, bytes_of};
 
 mod answers;
 mod case;
