@@ -364,8 +364,7 @@ pub fn expr(alloc: Global, scope: &Scope, at: &mut u32, e: &Expr) -> Result<Form
     if e.rest.is_empty() {
         return Ok(x);
     }
-    let start = chain_start(alloc, x);
-    let all = commas(alloc, scope, at, p, start, e.rest.as_slice())?;
+    let all = commas(alloc, scope, at, p, x, e.rest.as_slice())?;
     chain_end(alloc, at, all)
 }
 
@@ -375,12 +374,12 @@ fn commas(
     scope: &Scope,
     at: &mut u32,
     p: u32,
-    start: Sofar,
+    x: Form,
     rest: &[CommaStep],
 ) -> Result<Sofar, TypeFault>
-    ensures { Walks (walk_operators p start at.old (map comma_of (map (walk_comma_step (knows scope.now)) rest.now))) result at.new }
+    ensures { Walks (walk_operators p (chain_start_of x) at.old (map comma_of (map (walk_comma_step (knows scope.now)) rest.now))) result at.new }
 {
-    let mut sofar = start;
+    let mut sofar = chain_start(alloc, x);
     for step in rest {
         sofar = comma(alloc, scope, at, p, sofar, step)?;
     }
@@ -512,8 +511,7 @@ fn chain(alloc: Global, scope: &Scope, at: &mut u32, e: &Chain) -> Result<Form, 
         Chain::Level(first, rest) => {
             let p = *at;
             let x = chain(alloc, scope, at, first.get())?;
-            let start = chain_start(alloc, x);
-            let all = operators(alloc, scope, at, p, start, rest.as_slice())?;
+            let all = operators(alloc, scope, at, p, x, rest.as_slice())?;
             chain_end(alloc, at, all)
         }
     }
@@ -525,12 +523,12 @@ fn operators(
     scope: &Scope,
     at: &mut u32,
     p: u32,
-    start: Sofar,
+    x: Form,
     rest: &[ChainStep],
 ) -> Result<Sofar, TypeFault>
-    ensures { Walks (walk_operators p start at.old (map (walk_chain_step (knows scope.now)) rest.now)) result at.new }
+    ensures { Walks (walk_operators p (chain_start_of x) at.old (map (walk_chain_step (knows scope.now)) rest.now)) result at.new }
 {
-    let mut sofar = start;
+    let mut sofar = chain_start(alloc, x);
     for step in rest {
         sofar = operator(alloc, scope, at, p, sofar, step)?;
     }
