@@ -4,7 +4,7 @@ use crate::type_rule::TypeRule;
 use crate::typed::{Builtin, TExpr};
 use clc_lexer::Mark;
 use q_lane::Scalar;
-use sqlite_items::Items;
+use sqlite_items::{Boxed, Items};
 
 /// A violated rule, with the number of its token.
 #[derive(Clone, Copy)]
@@ -77,7 +77,7 @@ pub enum Named {
 /// An expression with its type, and as a place. The typed expression of an array's name never stays in a tree.
 #[derive(Drop)]
 pub struct Form {
-    pub expr: TExpr,
+    pub expr: Boxed<TExpr>,
     pub kind: Kind,
     pub place: Place,
 }
@@ -86,7 +86,7 @@ pub struct Form {
 #[derive(Drop)]
 pub struct Sofar {
     pub kind: Kind,
-    pub first: TExpr,
+    pub first: Boxed<TExpr>,
     pub rest: Items<(Mark, TExpr)>,
 }
 
@@ -95,7 +95,7 @@ pub struct Sofar {
 pub struct Argument {
     pub place: u32,
     pub kind: Kind,
-    pub expr: TExpr,
+    pub expr: Boxed<TExpr>,
 }
 
 /// What a call must know of a function.

@@ -162,6 +162,15 @@ module _ (k : Known) where
       (passes (walk_chain k first p) (λ y r. after (walk_operators p (chain_start y) r (map (walk_chain_step k) rest)) chain_end) x q (Err f) n (subst (λ z. Walks (walk_chain k z p) (Ok x) q) get h)
       (ends (walk_operators p (chain_start x) q (map (walk_chain_step k) rest)) chain_end f n n j))
 
+  pub cond_stops : (e : Cond) (c g : Choice) (p q r n : ℕ) (x : Form) (f : TypeFault) → (out-Cond e).choice ≡ Some c → Walks (walk_chain k (out-Cond e).test p) (Ok x) q
+      → g ≡ c → r ≡ bump q 1 → Walks (walk_expr k (out-Choice g).yes r) (Err f) n → Walks (walk_cond k e p) (Err f) n
+  cond_stops e c g p q r n x f is h get skip i =
+      let w = walk_chain k (out-Cond e).test in
+      let i' = subst (λ z. Walks (walk_expr k (out-Choice c).yes z) (Err f) n) skip (subst (λ z. Walks (walk_expr k (out-Choice z).yes r) (Err f) n) get i) in
+      subst (λ z. Walks (z p) (Err f) n) (sym (conditional_walk e c is ∙ ap (λ o. walk_conditional w (Some o)) (choices_walk c)))
+      (passes (w p) (λ x q. after (walk_expr k (out-Choice c).yes (bump q 1)) (λ y r. after (walk_cond k (out-Choice c).no (bump r 1)) (λ z u. conditional_end p x (bump q 1) y (bump r 1) z u))) x q (Err f) n h
+      (ends (walk_expr k (out-Choice c).yes (bump q 1)) (λ y r. after (walk_cond k (out-Choice c).no (bump r 1)) (λ z u. conditional_end p x (bump q 1) y (bump r 1) z u)) f n n i'))
+
   pub cond_fails : (e : Cond) (c g : Choice) (p q r s u n : ℕ) (x y : Form) (f : TypeFault) → (out-Cond e).choice ≡ Some c → Walks (walk_chain k (out-Cond e).test p) (Ok x) q
       → g ≡ c → r ≡ bump q 1 → Walks (walk_expr k (out-Choice g).yes r) (Ok y) s → u ≡ bump s 1 → Walks (walk_cond k (out-Choice g).no u) (Err f) n → Walks (walk_cond k e p) (Err f) n
   cond_fails e c g p q r s u n x y f is h get skip i step j =

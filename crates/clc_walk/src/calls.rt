@@ -109,7 +109,7 @@ fn exprs(alloc: Global, list: Vec<Argument>) -> Result<Items<TExpr>, TypeFault>
     let mut all = Items::new(alloc);
     for x in list {
         let Argument { expr, .. } = x;
-        all.push(expr).map_err(memory)?;
+        all.push(expr.into_inner()).map_err(memory)?;
     }
     Ok(all)
 }
@@ -239,7 +239,7 @@ fn function_end(
     skip(at, 1);
     let kind = call_kind(home, function);
     let args = exprs(alloc, list)?;
-    Ok(plain(name.from, kind, Node::Call { function, args }))
+    plain(alloc, name.from, kind, Node::Call { function, args })
 }
 
 #[tactic(auto, using(crate::proofs::Steps::guarded_stops, crate::proofs::Steps::guarded_goes))]
@@ -261,7 +261,7 @@ fn builtin_end(
     let work = work_of(which, list.as_slice());
     let kind = Kind::Value(gives(which, work));
     let args = exprs(alloc, list)?;
-    Ok(plain(name.from, kind, Node::Builtin { which, work, args }))
+    plain(alloc, name.from, kind, Node::Builtin { which, work, args })
 }
 
 /// A call, once its arguments are there.

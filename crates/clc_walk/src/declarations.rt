@@ -105,7 +105,7 @@ fn fit_end(at: &u32, kind: Kind, q: u32, x: Form) -> Result<Option<TExpr>, TypeF
         return Err(broken(f));
     }
     let Form { expr, .. } = x;
-    Ok(Some(expr))
+    Ok(Some(expr.into_inner()))
 }
 
 #[tactic(auto, unfolding(clc_types::specs::InternalSteps::init_in))]

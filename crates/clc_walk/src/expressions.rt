@@ -2,7 +2,7 @@
 
 ghost use Rattle.std.specs.Prelude.{◌≡◌, ◌+◌, [], ◌∷◌, ◌++◌, Some, map};
 ghost use Rattle.clc_types.specs.Words.{type_tokens as type_tokens_of};
-ghost use Rattle.clc_types.specs.Typing.{element_node as element_node_of, deref_form as deref_form_of, argument, plain as plain_of, number_form as number_form_of, variable_form as variable_form_of};
+ghost use Rattle.clc_types.specs.Typing.{element_node as element_node_of, deref_form as deref_form_of, argument, expr_of as typed_expr, plain as plain_of, number_form as number_form_of, variable_form as variable_form_of};
 ghost use Rattle.clc_types.specs.InternalScope.{knows};
 ghost use Rattle.clc_types.specs.InternalAnswers.{Walks, Gives, items_in};
 ghost use Rattle.clc_types.specs.InternalWalk.{bump, paren_end as paren_end_of, index_end as index_end_of, post_end as post_end_of, step_end as step_end_of, prefix_end as prefix_end_of, cast_end as cast_end_of, chain_start as chain_start_of, operator_end as operator_end_of, chain_end as chain_end_of, conditional_end as conditional_end_of, assign_end as assign_end_of, comma as comma_of, walk_operator, walk_operators, walk_argument, walk_arguments, walk_suffix, series_of, walk_expr, walk_assign, walk_cast, walk_chain, walk_primary, walk_unary, walk_chain_step, walk_comma_step, walk_cond, walk_post, walk_post_step, map_series};
@@ -57,23 +57,27 @@ fn boxed(alloc: Global, expr: TExpr) -> Result<Boxed<TExpr>, TypeFault>
     Boxed::new(alloc, expr).map_err(memory)
 }
 
-/// An expression that is no place.
-pub fn plain(at: u32, kind: Kind, node: Node) -> Form
-    ensures { result ≡ plain_of at kind node }
+/// The typed expression of a node that begins at byte `at` of the source.
+fn expr_of(alloc: Global, at: u32, kind: Kind, node: Node) -> Result<Boxed<TExpr>, TypeFault>
+    ensures { Gives result (typed_expr at kind node) }
 {
-    Form {
-        expr: TExpr {
-            at,
-            ty: ty_of(kind),
-            node,
-        },
-        kind,
-        place: Place::Nowhere,
-    }
+    let ty = ty_of(kind);
+    boxed(alloc, TExpr { at, ty, node })
 }
 
-fn number_form(token: &Token) -> Form
-    ensures { result ≡ number_form_of token.now }
+/// An expression that is no place.
+pub fn plain(alloc: Global, at: u32, kind: Kind, node: Node) -> Result<Form, TypeFault>
+    ensures { Gives result (plain_of at kind node) }
+{
+    Ok(Form {
+        expr: expr_of(alloc, at, kind, node)?,
+        kind,
+        place: Place::Nowhere,
+    })
+}
+
+fn number_form(alloc: Global, token: &Token) -> Result<Form, TypeFault>
+    ensures { Gives result (number_form_of token.now) }
 {
     let scalar = if is_unsigned(token) {
         Scalar::Uint
@@ -81,25 +85,22 @@ fn number_form(token: &Token) -> Form
         Scalar::Int
     };
     plain(
+        alloc,
         token.from,
         Kind::Value(scalar),
         Node::Number(value_of(token)),
     )
 }
 
-fn variable_form(token: &Token, var: u32, shape: Shape) -> Form
-    ensures { result ≡ variable_form_of token.now var shape }
+fn variable_form(alloc: Global, token: &Token, var: u32, shape: Shape) -> Result<Form, TypeFault>
+    ensures { Gives result (variable_form_of token.now var shape) }
 {
     let kind = kind_of(var, shape);
-    Form {
-        expr: TExpr {
-            at: token.from,
-            ty: ty_of(kind),
-            node: Node::Name(var),
-        },
+    Ok(Form {
+        expr: expr_of(alloc, token.from, kind, Node::Name(var))?,
         kind,
         place: place_of(shape),
-    }
+    })
 }
 
 #[tactic(auto, unfolding(clc_types::specs::InternalWalk::paren_end))]
@@ -108,28 +109,23 @@ fn paren_end(alloc: Global, at: &mut u32, opening: &Token, x: Form) -> Result<Fo
 {
     skip(at, 1);
     let Form { expr, kind, place } = x;
-    let node = Node::Paren(boxed(alloc, expr)?);
     Ok(Form {
-        expr: TExpr {
-            at: opening.from,
-            ty: ty_of(kind),
-            node,
-        },
+        expr: expr_of(alloc, opening.from, kind, Node::Paren(expr))?,
         kind,
         place,
     })
 }
 
-fn element_node(alloc: Global, x: Form, y: Form) -> Result<Node, TypeFault>
-    ensures { Gives result (element_node_of x y) }
+fn element_node(x: Form, y: Form) -> Node
+    ensures { result ≡ element_node_of x y }
 {
-    let index = boxed(alloc, y.expr)?;
+    let index = y.expr;
     match x.kind {
-        Kind::Array { var, .. } => Ok(Node::Element { array: var, index }),
-        _ => Ok(Node::Index {
-            base: boxed(alloc, x.expr)?,
+        Kind::Array { var, .. } => Node::Element { array: var, index },
+        _ => Node::Index {
+            base: x.expr,
             index,
-        }),
+        },
     }
 }
 
@@ -148,16 +144,11 @@ fn index_end(
         return Err(broken(f));
     }
     skip(at, 1);
-    let first = x.expr.at;
+    let first = x.expr.get().at;
     let kind = element_kind(x.kind);
     let place = element_place(x.kind, x.place);
-    let node = element_node(alloc, x, y)?;
     Ok(Form {
-        expr: TExpr {
-            at: first,
-            ty: ty_of(kind),
-            node,
-        },
+        expr: expr_of(alloc, first, kind, element_node(x, y))?,
         kind,
         place,
     })
@@ -178,13 +169,13 @@ fn post_end(
     }
     skip(at, 1);
     let Form { expr, kind, .. } = x;
-    let first = expr.at;
+    let first = expr.get().at;
     let node = Node::Step {
-        place: boxed(alloc, expr)?,
+        place: expr,
         up: is_increment(mark_of(operator)),
         post: true,
     };
-    Ok(plain(first, kind, node))
+    plain(alloc, first, kind, node)
 }
 
 #[tactic(auto, using(crate::proofs::Steps::guarded_stops, crate::proofs::Steps::guarded_goes), unfolding(clc_types::specs::InternalWalk::step_end))]
@@ -196,11 +187,11 @@ fn step_end(alloc: Global, at: &u32, operator: &Token, q: u32, x: Form) -> Resul
     }
     let Form { expr, kind, .. } = x;
     let node = Node::Step {
-        place: boxed(alloc, expr)?,
+        place: expr,
         up: is_increment(mark_of(operator)),
         post: false,
     };
-    Ok(plain(operator.from, kind, node))
+    plain(alloc, operator.from, kind, node)
 }
 
 fn deref(alloc: Global, operator: &Token, x: Form) -> Result<Form, TypeFault>
@@ -208,13 +199,8 @@ fn deref(alloc: Global, operator: &Token, x: Form) -> Result<Form, TypeFault>
 {
     let kind = element_kind(x.kind);
     let place = element_place(x.kind, x.place);
-    let node = Node::Deref(boxed(alloc, x.expr)?);
     Ok(Form {
-        expr: TExpr {
-            at: operator.from,
-            ty: ty_of(kind),
-            node,
-        },
+        expr: expr_of(alloc, operator.from, kind, Node::Deref(x.expr))?,
         kind,
         place,
     })
@@ -235,8 +221,7 @@ fn prefix_end(alloc: Global, at: &u32, operator: &Token, q: u32, x: Form) -> Res
         return Err(broken(f));
     }
     let kind = prefix_kind(op, x.kind);
-    let arg = boxed(alloc, x.expr)?;
-    Ok(plain(operator.from, kind, Node::Prefix { op, arg }))
+    plain(alloc, operator.from, kind, Node::Prefix { op, arg: x.expr })
 }
 
 #[tactic(auto, using(crate::proofs::Steps::guarded_stops, crate::proofs::Steps::guarded_goes), unfolding(clc_types::specs::InternalWalk::cast_end))]
@@ -253,8 +238,12 @@ fn cast_end(
     if let Some(f) = scalar_needed(q, x.kind) {
         return Err(broken(f));
     }
-    let node = Node::Cast(boxed(alloc, x.expr)?);
-    Ok(plain(opening.from, Kind::Value(type_of(target)), node))
+    plain(
+        alloc,
+        opening.from,
+        Kind::Value(type_of(target)),
+        Node::Cast(x.expr),
+    )
 }
 
 #[tactic(auto, unfolding(clc_types::specs::InternalWalk::chain_start))]
@@ -290,7 +279,7 @@ fn operator_end(
         ..
     } = sofar;
     let Form { expr, .. } = y;
-    rest.push((mark, expr)).map_err(memory)?;
+    rest.push((mark, expr.into_inner())).map_err(memory)?;
     Ok(Sofar { kind, first, rest })
 }
 
@@ -299,9 +288,8 @@ fn chain_end(alloc: Global, at: &u32, x: Sofar) -> Result<Form, TypeFault>
     ensures { Walks (chain_end_of x at.now) result at.now }
 {
     let Sofar { kind, first, rest } = x;
-    let begins = first.at;
-    let first = boxed(alloc, first)?;
-    Ok(plain(begins, kind, Node::Chain { first, rest }))
+    let begins = first.get().at;
+    plain(alloc, begins, kind, Node::Chain { first, rest })
 }
 
 #[tactic(auto, using(crate::proofs::Steps::guarded_stops, crate::proofs::Steps::guarded_goes), unfolding(clc_types::specs::InternalWalk::conditional_end))]
@@ -321,13 +309,8 @@ fn conditional_end(
         return Err(broken(f));
     }
     let kind = Kind::Value(common(scalar_of(y.kind), scalar_of(z.kind)));
-    let first = x.expr.at;
-    let node = Node::Cond(
-        boxed(alloc, x.expr)?,
-        boxed(alloc, y.expr)?,
-        boxed(alloc, z.expr)?,
-    );
-    Ok(plain(first, kind, node))
+    let first = x.expr.get().at;
+    plain(alloc, first, kind, Node::Cond(x.expr, y.expr, z.expr))
 }
 
 #[tactic(auto, using(crate::proofs::Steps::guarded_stops, crate::proofs::Steps::guarded_goes), unfolding(clc_types::specs::InternalWalk::assign_end))]
@@ -346,13 +329,13 @@ fn assign_end(
         return Err(broken(f));
     }
     let kind = x.kind;
-    let first = x.expr.at;
+    let first = x.expr.get().at;
     let node = Node::Assign {
-        place: boxed(alloc, x.expr)?,
+        place: x.expr,
         op,
-        value: boxed(alloc, y.expr)?,
+        value: y.expr,
     };
-    Ok(plain(first, kind, node))
+    plain(alloc, first, kind, node)
 }
 
 fn push(mut list: Vec<Argument>, place: u32, x: Form) -> Result<Vec<Argument>, TypeFault>
@@ -381,8 +364,7 @@ pub fn expr(alloc: Global, scope: &Scope, at: &mut u32, e: &Expr) -> Result<Form
     if e.rest.is_empty() {
         return Ok(x);
     }
-    let start = chain_start(alloc, x);
-    let all = commas(alloc, scope, at, p, start, e.rest.as_slice())?;
+    let all = commas(alloc, scope, at, p, x, e.rest.as_slice())?;
     chain_end(alloc, at, all)
 }
 
@@ -392,12 +374,12 @@ fn commas(
     scope: &Scope,
     at: &mut u32,
     p: u32,
-    start: Sofar,
+    x: Form,
     rest: &[CommaStep],
 ) -> Result<Sofar, TypeFault>
-    ensures { Walks (walk_operators p start at.old (map comma_of (map (walk_comma_step (knows scope.now)) rest.now))) result at.new }
+    ensures { Walks (walk_operators p (chain_start_of x) at.old (map comma_of (map (walk_comma_step (knows scope.now)) rest.now))) result at.new }
 {
-    let mut sofar = start;
+    let mut sofar = chain_start(alloc, x);
     for step in rest {
         sofar = comma(alloc, scope, at, p, sofar, step)?;
     }
@@ -529,8 +511,7 @@ fn chain(alloc: Global, scope: &Scope, at: &mut u32, e: &Chain) -> Result<Form, 
         Chain::Level(first, rest) => {
             let p = *at;
             let x = chain(alloc, scope, at, first.get())?;
-            let start = chain_start(alloc, x);
-            let all = operators(alloc, scope, at, p, start, rest.as_slice())?;
+            let all = operators(alloc, scope, at, p, x, rest.as_slice())?;
             chain_end(alloc, at, all)
         }
     }
@@ -542,12 +523,12 @@ fn operators(
     scope: &Scope,
     at: &mut u32,
     p: u32,
-    start: Sofar,
+    x: Form,
     rest: &[ChainStep],
 ) -> Result<Sofar, TypeFault>
-    ensures { Walks (walk_operators p start at.old (map (walk_chain_step (knows scope.now)) rest.now)) result at.new }
+    ensures { Walks (walk_operators p (chain_start_of x) at.old (map (walk_chain_step (knows scope.now)) rest.now)) result at.new }
 {
-    let mut sofar = start;
+    let mut sofar = chain_start(alloc, x);
     for step in rest {
         sofar = operator(alloc, scope, at, p, sofar, step)?;
     }
@@ -654,12 +635,12 @@ fn primary(alloc: Global, scope: &Scope, at: &mut u32, e: &Primary) -> Result<Fo
     match e {
         Primary::Number(token) => {
             skip(at, 1);
-            Ok(number_form(token))
+            number_form(alloc, token)
         }
         Primary::Name(token) => match named(scope, name_of(token)) {
             Some(Named::Variable(var, shape)) => {
                 skip(at, 1);
-                Ok(variable_form(token, var, shape))
+                variable_form(alloc, token, var, shape)
             }
             _ => Err(TypeFault::Rule {
                 rule: TypeRule::S1,

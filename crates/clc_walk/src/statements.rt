@@ -19,7 +19,7 @@ use sqlite_items::{Boxed, Items};
 use std::alloc::{AllocError, Global};
 
 #[tactic(auto, using(crate::proofs::Steps::guarded_stops, crate::proofs::Steps::guarded_goes), unfolding(clc_types::specs::InternalSteps::condition_end))]
-fn condition_end(at: &u32, p: u32, x: Form) -> Result<TExpr, TypeFault>
+fn condition_end(at: &u32, p: u32, x: Form) -> Result<Boxed<TExpr>, TypeFault>
     ensures { Walks (condition_end_of p x at.now) result at.now }
 {
     if let Some(f) = scalar_needed(p, x.kind) {
@@ -30,7 +30,7 @@ fn condition_end(at: &u32, p: u32, x: Form) -> Result<TExpr, TypeFault>
 }
 
 #[tactic(auto, using(crate::proofs::Steps::guarded_stops, crate::proofs::Steps::guarded_goes), unfolding(clc_types::specs::InternalSteps::value_end))]
-fn value_end(at: &u32, p: u32, x: Form) -> Result<TExpr, TypeFault>
+fn value_end(at: &u32, p: u32, x: Form) -> Result<Boxed<TExpr>, TypeFault>
     ensures { Walks (value_end_of p x at.now) result at.now }
 {
     if let Some(f) = no_array(p, x.kind) {
@@ -42,7 +42,7 @@ fn value_end(at: &u32, p: u32, x: Form) -> Result<TExpr, TypeFault>
 
 /// An expression where a number is needed.
 #[tactic(auto, unfolding(clc_types::specs::InternalSteps::condition_in))]
-fn condition(alloc: Global, state: &mut State, e: &Expr) -> Result<TExpr, TypeFault>
+fn condition(alloc: Global, state: &mut State, e: &Expr) -> Result<Boxed<TExpr>, TypeFault>
     ensures { Stands (condition_in e.now (view_of state.old)) result state.new }
 {
     let p = state.at;
@@ -52,7 +52,7 @@ fn condition(alloc: Global, state: &mut State, e: &Expr) -> Result<TExpr, TypeFa
 
 /// An expression where no value is needed.
 #[tactic(auto, unfolding(clc_types::specs::InternalSteps::value_in))]
-fn value(alloc: Global, state: &mut State, e: &Expr) -> Result<TExpr, TypeFault>
+fn value(alloc: Global, state: &mut State, e: &Expr) -> Result<Boxed<TExpr>, TypeFault>
     ensures { Stands (value_in e.now (view_of state.old)) result state.new }
 {
     let p = state.at;
@@ -64,7 +64,7 @@ fn maybe_condition(
     alloc: Global,
     state: &mut State,
     e: &Option<Expr>,
-) -> Result<Option<TExpr>, TypeFault>
+) -> Result<Option<Boxed<TExpr>>, TypeFault>
     ensures { (l : Bool) → Stands (maybe_condition_walk e.now l (view_of state.old)) result state.new }
 {
     match e {
@@ -77,7 +77,7 @@ fn maybe_value(
     alloc: Global,
     state: &mut State,
     e: &Option<Expr>,
-) -> Result<Option<TExpr>, TypeFault>
+) -> Result<Option<Boxed<TExpr>>, TypeFault>
     ensures { (l : Bool) → Stands (maybe_value_walk e.now l (view_of state.old)) result state.new }
 {
     match e {
@@ -95,7 +95,7 @@ fn return_end(at: &mut u32, p: u32, gives: Option<Scalar>, x: Form) -> Result<TS
     }
     skip(at, 1);
     let Form { expr, .. } = x;
-    Ok(TStmt::Return(Some(expr)))
+    Ok(TStmt::Return(Some(expr.into_inner())))
 }
 
 #[tactic(auto, using(crate::proofs::Steps::guarded_stops, crate::proofs::Steps::guarded_goes), unfolding(clc_types::specs::InternalSteps::bare_return))]
@@ -163,12 +163,18 @@ fn for_start(alloc: Global, state: &mut State, start: &ForStart) -> Result<Items
         ForStart::Eval(e, _) => {
             let mut list = Items::new(alloc);
             if let Some(x) = maybe_value(alloc, state, e)? {
-                push(&mut list, TStmt::Eval(x))?;
+                push(&mut list, TStmt::Eval(x.into_inner()))?;
             }
             pass(state, 1);
             Ok(list)
         }
     }
+}
+
+fn unboxed(e: Option<Boxed<TExpr>>) -> Option<TExpr>
+    ensures { result ≡ e }
+{
+    e.map(Boxed::into_inner)
 }
 
 /// A statement, in a loop or not.
@@ -187,7 +193,7 @@ pub fn stmt(alloc: Global, state: &mut State, looped: bool, s: &Stmt) -> Result<
         Stmt::Eval(e, _) => {
             let x = value(alloc, state, e)?;
             pass(state, 1);
-            Ok(TStmt::Eval(x))
+            Ok(TStmt::Eval(x.into_inner()))
         }
         Stmt::Empty(_) => {
             pass(state, 1);
@@ -212,7 +218,11 @@ fn choice(alloc: Global, state: &mut State, looped: bool, x: &If) -> Result<TStm
     pass(state, 1);
     let yes = boxed(alloc, state, looped, x.body.get())?;
     let no = otherwise(alloc, state, looped, &x.other)?;
-    Ok(TStmt::If { cond, yes, no })
+    Ok(TStmt::If {
+        cond: cond.into_inner(),
+        yes,
+        no,
+    })
 }
 
 #[cycle(statements)]
@@ -223,7 +233,10 @@ fn while_loop(alloc: Global, state: &mut State, x: &While) -> Result<TStmt, Type
     let cond = condition(alloc, state, &x.test)?;
     pass(state, 1);
     let body = boxed(alloc, state, true, x.body.get())?;
-    Ok(TStmt::While { cond, body })
+    Ok(TStmt::While {
+        cond: cond.into_inner(),
+        body,
+    })
 }
 
 #[cycle(statements)]
@@ -235,7 +248,10 @@ fn do_loop(alloc: Global, state: &mut State, x: &Do) -> Result<TStmt, TypeFault>
     pass(state, 2);
     let cond = condition(alloc, state, &x.test)?;
     pass(state, 2);
-    Ok(TStmt::Do { body, cond })
+    Ok(TStmt::Do {
+        body,
+        cond: cond.into_inner(),
+    })
 }
 
 /// A `for` is a block of its own.
@@ -254,8 +270,8 @@ fn for_loop(alloc: Global, state: &mut State, x: &For) -> Result<TStmt, TypeFaul
     leave(state);
     Ok(TStmt::For {
         init,
-        cond,
-        step,
+        cond: unboxed(cond),
+        step: unboxed(step),
         body,
     })
 }
