@@ -2,12 +2,12 @@
 
 ghost use Rattle.std.specs.Prelude.{◌≡◌, ◌++◌, ◌∷◌, [], ℕ, List, IfOk, map, if◌then◌else◌};
 ghost use Rattle.qpu_select.specs.Code.{HasRoom};
-ghost use Rattle.qpu_select.specs.Clears.{clear as clear_of, cleared, cleared_by, written, writes, Marks};
+ghost use Rattle.qpu_select.specs.Clears.{clear as clear_of, cleared, cleared_by, seen_after, namings, Marks};
 
+use crate::naming::Naming;
+use crate::namings::put_namings;
 use crate::registers::Memory;
 use crate::shape::Shape;
-use crate::write::Write;
-use crate::writes::put_writes;
 use lane_ir::LaneStmt;
 use std::alloc::{AllocError, Global};
 use vop_ir::{Dst, Src, Vop, copy};
@@ -22,8 +22,8 @@ fn put_where(ops: &mut Vec<Vop>, is_new: bool, reg: u32) -> Result<(), Memory>
     Ok(())
 }
 
-/// Clears the register of a write, where it is the first and in some lanes only. The flags say which registers were written before.
-fn put_clear(ops: &mut Vec<Vop>, flags: &mut Vec<bool>, w: Write) -> Result<(), Memory>
+/// Clears a register where it is named for the first time, and written there in some lanes only. The flags say which registers were named before.
+fn put_clear(ops: &mut Vec<Vop>, flags: &mut Vec<bool>, w: Naming) -> Result<(), Memory>
     ensures code { (seen : List ℕ) → Marks flags.old.items seen
         → IfOk result (λ _. ops.new.items ≡ ops.old.items ++ map clear_of (cleared_by seen w)) }
     ensures marks { (seen : List ℕ) → Marks flags.old.items seen → IfOk result (λ _. Marks flags.new.items (w.reg ∷ seen)) }
@@ -37,11 +37,11 @@ fn put_clear(ops: &mut Vec<Vop>, flags: &mut Vec<bool>, w: Write) -> Result<(), 
     put_where(ops, w.in_part && is_first, w.reg)
 }
 
-/// Clears the registers of writes that are the first and in some lanes only.
-fn put_clears(ops: &mut Vec<Vop>, flags: &mut Vec<bool>, list: &[Write]) -> Result<(), Memory>
+/// Clears the registers that are named here for the first time, and written there in some lanes only.
+fn put_clears(ops: &mut Vec<Vop>, flags: &mut Vec<bool>, list: &[Naming]) -> Result<(), Memory>
     ensures code { (seen : List ℕ) → Marks flags.old.items seen
         → IfOk result (λ _. ops.new.items ≡ ops.old.items ++ map clear_of (cleared seen list.now)) }
-    ensures marks { (seen : List ℕ) → Marks flags.old.items seen → IfOk result (λ _. Marks flags.new.items (written seen list.now)) }
+    ensures marks { (seen : List ℕ) → Marks flags.old.items seen → IfOk result (λ _. Marks flags.new.items (seen_after seen list.now)) }
 {
     for w in list {
         put_clear(ops, flags, *w)?;
@@ -49,7 +49,7 @@ fn put_clears(ops: &mut Vec<Vop>, flags: &mut Vec<bool>, list: &[Write]) -> Resu
     Ok(())
 }
 
-/// Clears what an outermost statement writes first and in some lanes only.
+/// Clears the registers that an outermost statement names for the first time, and writes there in some lanes only.
 pub fn put_cleared(
     alloc: Global,
     ops: &mut Vec<Vop>,
@@ -59,11 +59,11 @@ pub fn put_cleared(
 ) -> Result<(), Memory>
     requires { HasRoom h }
     ensures code { (seen : List ℕ) → Marks flags.old.items seen
-        → IfOk result (λ _. ops.new.items ≡ ops.old.items ++ map clear_of (cleared seen (writes h stmt.now))) }
+        → IfOk result (λ _. ops.new.items ≡ ops.old.items ++ map clear_of (cleared seen (namings h stmt.now))) }
     ensures marks { (seen : List ℕ) → Marks flags.old.items seen
-        → IfOk result (λ _. Marks flags.new.items (written seen (writes h stmt.now))) }
+        → IfOk result (λ _. Marks flags.new.items (seen_after seen (namings h stmt.now))) }
 {
     let mut list = Vec::new(alloc);
-    put_writes(&mut list, h, stmt)?;
+    put_namings(&mut list, h, stmt)?;
     put_clears(ops, flags, &list)
 }

@@ -6,12 +6,12 @@ mod body;
 mod clears;
 mod emitted;
 mod lets;
+mod naming;
+mod namings;
 mod registers;
 mod shape;
 mod walk;
 mod whole;
-mod write;
-mod writes;
 
 pub use registers::Memory;
 pub use whole::select;

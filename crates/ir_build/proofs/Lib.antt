@@ -1,0 +1,10 @@
+pub mod ByMarks
+pub mod Forms
+pub mod Joins
+pub mod Known
+pub mod KnownPieces
+pub mod KnownTrees
+pub mod NamedForms
+pub mod Rows
+pub mod Steps
+pub mod Whole
