@@ -196,7 +196,7 @@ fn beginning(n: usize, a: &TStmt) -> bool
     }
 }
 
-/// Whether a body names only what is there. The body of a typed kernel does.
+/// Whether a body names only what is there. That of a typed kernel does, which isn't proved yet.
 pub(crate) fn is_sound(body: &Body) -> bool
     ensures { result ≡ is_named body.now.vars.items body.now.params body.now.body }
 {

@@ -88,7 +88,7 @@ fn count(vars: &[Var]) -> Result<u32, Memory>
 ///
 /// # Errors
 ///
-/// Where memory is wanting, or where the body names what isn't there, which that of a typed kernel doesn't.
+/// Where memory is wanting, or where the body names what isn't there.
 pub fn build(alloc: Global, body: &Body) -> Result<Ir, Memory>
     ensures code { IfOk result (λ ir. ir.body.items ≡ (body_code body.now.vars.items body.now.params body.now.body).stmts) }
     ensures vals { IfOk result (λ ir. ir.vals ≡ (body_code body.now.vars.items body.now.params body.now.body).next) }

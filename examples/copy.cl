@@ -1,0 +1,1 @@
+kernel void copy(global uint*a,global uint*b){uint i=get_global_id(0);b[i]=a[i];}
