@@ -1,6 +1,7 @@
 -- What the front end's answers say of a source.
 use Rattle.std.proofs.Common.{◌≡◌, ℕ, zero, suc, ◌+◌, ◌<◌, ◌≤◌, ◌^◌, List, [], ◌∷◌, ◌++◌, length, get_or, Bool, true, false, refl, sym, ap, ◌∙◌, subst, arith, inl, inr}
 use Rattle.std.specs.Prelude.{◌&&◌, Some, slice_get, bytes_eq, Result, Ok, Err, IfOk, if◌then◌else◌, map}
+use Rattle.std.specs.Result.{IsErrAnd}
 use Rattle.std.proofs.lemmas.Bool.{cases_lt}
 use Rattle.std.proofs.lemmas.List.{length-append}
 use Rattle.clc_lexer.specs.declared.token.Token.{Token}
@@ -17,11 +18,17 @@ use Rattle.clc_types.specs.declared.type_rule.TypeRule.{TypeRule}
 use Rattle.clc_types.specs.declared.typed.TypeFault.TheVariants.{Rule}
 use Rattle.clc_types.specs.Judged.{Judged, Fine, Faulty, both, next, IsLeast}
 use Rattle.clc_types.specs.Programs.{program, kernel_of, Judges, Before, function_at, functions_at, function_piece, with_function, no_function}
+use Rattle.clc_counts.specs.declared.tally.Tally.{Tally}
+use Rattle.clc_counts.specs.declared.limits.LimitFault.{LimitFault}
+use Rattle.clc_counts.specs.declared.limits.LimitFault.TheVariants as fault
+use Rattle.clc_counts.specs.Counts.{tally_of}
+use Rattle.clc_counts.specs.Limits.{KeepsLimits}
 use Rattle.promise.specs.declared.refusal.SourceRule.{SourceRule}
+use Rattle.promise.specs.declared.refusal.SourceRule.TheVariants.{N1, N2}
 use Rattle.promise.specs.declared.refusal.Refusal.{Refusal}
 use Rattle.promise.specs.declared.refusal.Refusal.TheVariants.{Rule as Refused}
 use Rattle.clc_front.specs.declared.wanted.WantedKernel.{WantedKernel}
-use Rattle.clc_front.specs.Profile.{place_of, IsSpelled, IsTyped, HasKernel, IsFirstViolation}
+use Rattle.clc_front.specs.Profile.{place_of, IsSpelled, IsTyped, HasKernel, IsNameOf, IsOverLimit, nodes, elements, IsTooLarge, IsFirstViolation}
 
 -- ---- sizes
 
@@ -148,6 +155,55 @@ kernel_within fs x k e =
 
 pub there_at : (source x : List ℕ) (functions : List TFunction) (k : ℕ) (f : TFunction) → HasKernel source x functions k → f ≡ get_or functions k f → slice_get functions k ≡ Some f
 there_at source x functions k f h is = kernel_there functions x k f h.named is
+
+at_there : (fs : List TFunction) (k : ℕ) (f : TFunction) → k < length fs → f ≡ get_or fs k f → slice_get fs k ≡ Some f
+at_there [] k f within is = absurd (omega (arith, within))
+at_there (x ∷ fs) zero f within is = sym (ap Some is)
+at_there (x ∷ fs) (suc k) f within is = at_there fs k f (omega (arith, within)) is
+
+-- a refusal at the name of a function
+pub named_at : (fs : List TFunction) (k : ℕ) (f : TFunction) (rule other : SourceRule) (at : ℕ) → k < length fs → f ≡ get_or fs k f → Refused rule f.at ≡ Refused other at
+    → (rule ≡ other) × IsNameOf fs k at
+named_at fs k f rule other at within is e =
+    let same : rule ≡ other = cc in
+    let place : f.at ≡ at = cc in
+    (same, record { function = f; there = at_there fs k f within is; place = sym place })
+
+-- ---- limits
+
+unwrapped : (r s : Refusal) → ◌≡◌ {A = Result (Unit {0}) Refusal} (Err r) (Err s) → r ≡ s
+unwrapped r s e = cc
+
+-- a refusal that is right where the limit is passed
+refused_rightly : (fs : List TFunction) (k : ℕ) (own rule : SourceRule) (at : ℕ) (refusal : Refusal) → IsOverLimit fs k own → ((place : ℕ) (other : SourceRule) → refusal ≡ Refused other place → (own ≡ other) × IsNameOf fs k place)
+    → ◌≡◌ {A = Result (Unit {0}) Refusal} (Err refusal) (Err (Refused rule at)) → IsTooLarge fs k rule at
+refused_rightly fs k own rule at refusal over names e =
+    let told = names at rule (unwrapped refusal (Refused rule at) e) in
+    record { name = told.1; over = subst (IsOverLimit fs k) told.0 over }
+
+pub too_many_nodes : (fs : List TFunction) (k count : ℕ) (rule : SourceRule) (at : ℕ) (refusal : Refusal) (result : Result Tally LimitFault) → result ≡ Err (fault.N1 count) → KeepsLimits (tally_of fs k) result
+    → ((place : ℕ) (other : SourceRule) → refusal ≡ Refused other place → (N1 ≡ other) × IsNameOf fs k place) → ◌≡◌ {A = Result (Unit {0}) Refusal} (Err refusal) (Err (Refused rule at))
+    → IsTooLarge fs k rule at
+too_many_nodes fs k count rule at refusal result is keeps names e =
+    let exceeds : KeepsLimits (tally_of fs k) (Err (fault.N1 count)) = subst (KeepsLimits (tally_of fs k)) is keeps in
+    refused_rightly fs k N1 rule at refusal (nodes exceeds.0) names e
+
+pub too_many_elements : (fs : List TFunction) (k count : ℕ) (rule : SourceRule) (at : ℕ) (refusal : Refusal) (result : Result Tally LimitFault) → result ≡ Err (fault.N2 count) → KeepsLimits (tally_of fs k) result
+    → ((place : ℕ) (other : SourceRule) → refusal ≡ Refused other place → (N2 ≡ other) × IsNameOf fs k place) → ◌≡◌ {A = Result (Unit {0}) Refusal} (Err refusal) (Err (Refused rule at))
+    → IsTooLarge fs k rule at
+too_many_elements fs k count rule at refusal result is keeps names e =
+    let exceeds : KeepsLimits (tally_of fs k) (Err (fault.N2 count)) = subst (KeepsLimits (tally_of fs k)) is keeps in
+    refused_rightly fs k N2 rule at refusal (elements exceeds.0 exceeds.1) names e
+
+-- a refusal that is handed on
+pub handed_on : {A : Type 0} (fs : List TFunction) (k : ℕ) (result : Result A Refusal) (refusal : Refusal) → IsErrAnd result (λ r. r ≡ refusal)
+    → ((rule : SourceRule) (at : ℕ) → ◌≡◌ {A = Result (Unit {0}) Refusal} (Err refusal) (Err (Refused rule at)) → IsTooLarge fs k rule at)
+    → (rule : SourceRule) (at : ℕ) → result ≡ Err (Refused rule at) → IsTooLarge fs k rule at
+handed_on fs k (Ok a) refusal is large rule at e = absurd is
+handed_on fs k (Err r) refusal is large rule at e = large rule at (ap Err (sym is ∙ same r (Refused rule at) e))
+  where
+    same : {A : Type 0} (r s : Refusal) → ◌≡◌ {A = Result A Refusal} (Err r) (Err s) → r ≡ s
+    same r s e = cc
 
 -- a kernel that is handed on is the same
 pub kernel_kept : (source kernel : List ℕ) (functions : List TFunction) (number : ℕ) (result : Result WantedKernel Refusal) → HasKernel source kernel functions number

@@ -161,7 +161,7 @@ module _ (source kernel : List ℕ) where
   one_size t u n m r s p q h named f g other d =
       let same = same_number source kernel t u n m h named g other in
       let here : IsTooLarge u m r p = moved t u n m r p same.0 same.1 f in
-      (one_limit u m r s here.over d.over, here.place ∙ ap (λ x. x.at) (same_function u u m m here.function d.function refl refl here.there d.there) ∙ sym d.place)
+      (one_limit u m r s here.over d.over, here.name.place ∙ ap (λ x. x.at) (same_function u u m m here.name.function d.name.function refl refl here.name.there d.name.there) ∙ sym d.name.place)
 
   abbrev Same : SourceRule → ℕ → SourceRule → ℕ → Type 0
   Same rule at other place = (rule ≡ other) × (at ≡ place)

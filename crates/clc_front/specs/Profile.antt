@@ -87,11 +87,15 @@ pub data IsOverLimit (functions : List TFunction) (number : ℕ) : SourceRule �
   nodes : 16384 < (tally_of functions number).nodes → IsOverLimit functions number N1
   elements : (tally_of functions number).nodes ≤ 16384 → 1024 < (tally_of functions number).elements → IsOverLimit functions number N2
 
--- so it violates this rule at its name
-pub record IsTooLarge (functions : List TFunction) (number : ℕ) (rule : SourceRule) (at : ℕ) : Type 0 where
+-- its name begins at this offset
+pub record IsNameOf (functions : List TFunction) (number : ℕ) (at : ℕ) : Type 0 where
   pub function : TFunction
   pub there : slice_get functions number ≡ Some function
   pub place : at ≡ function.at
+
+-- so it violates this rule at its name
+pub record IsTooLarge (functions : List TFunction) (number : ℕ) (rule : SourceRule) (at : ℕ) : Type 0 where
+  pub name : IsNameOf functions number at
   pub over : IsOverLimit functions number rule
 
 -- The first violated rule and its offset. Rules on bytes come first, then those of the grammar, the typing rules, the name of the kernel and its size; of

@@ -6,7 +6,7 @@ ghost use Rattle.clc_counts.specs.Limits.{IsWithin};
 ghost use Rattle.clc_types.specs.declared.typed.TFunction.{TFunction};
 ghost use Rattle.promise.specs.declared.refusal.SourceRule.{SourceRule as AnyRule};
 ghost use Rattle.clc_front.specs.declared.wanted.WantedKernel.{WantedKernel as AnyWanted};
-ghost use Rattle.clc_front.specs.Profile.{HasKernel, IsFirstViolation, IsTooLarge};
+ghost use Rattle.clc_front.specs.Profile.{HasKernel, IsFirstViolation, IsNameOf, IsTooLarge};
 ghost use Rattle.clc_front.specs.Kinds.{kinds_at as kinds_at_number};
 
 use crate::kinds::kinds_at;
@@ -77,14 +77,21 @@ fn limit(alloc: Global, functions: &[TFunction], kernel: u32) -> Result<(), Refu
     ensures refused { (rule : AnyRule) (at : ℕ) → result ≡ Err (Refusal.Rule rule at)
         → IsTooLarge functions.now kernel rule at }
 {
-    let rule = match kernel_tally(alloc, functions, kernel) {
-        Ok(_) => return Ok(()),
-        Err(LimitFault::N1 { .. }) => SourceRule::N1,
-        Err(LimitFault::N2 { .. }) => SourceRule::N2,
-        Err(LimitFault::Memory) => return Err(Refusal::Memory),
-    };
+    match kernel_tally(alloc, functions, kernel) {
+        Ok(_) => Ok(()),
+        Err(LimitFault::N1 { .. }) => Err(refused(functions, kernel, SourceRule::N1)),
+        Err(LimitFault::N2 { .. }) => Err(refused(functions, kernel, SourceRule::N2)),
+        Err(LimitFault::Memory) => Err(Refusal::Memory),
+    }
+}
+
+/// The refusal of a kernel by this rule, at its name.
+fn refused(functions: &[TFunction], kernel: u32, rule: SourceRule) -> Refusal
+    requires { kernel < length functions.now }
+    ensures { (at : ℕ) (other : AnyRule) → result ≡ Refusal.Rule other at → (rule ≡ other) × IsNameOf functions.now kernel at }
+{
     let at = functions[kernel as usize].at;
-    Err(Refusal::Rule { rule, at })
+    Refusal::Rule { rule, at }
 }
 
 /// The typed tree and the number of the kernel, with the kinds of its parameters.

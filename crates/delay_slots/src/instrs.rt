@@ -44,6 +44,10 @@ fn instrs_of(alloc: Global, words: &[u64]) -> Result<Vec<Instr>, Memory>
 }
 
 /// The words of blocks of pairs, tight: no word of them could be spared.
+///
+/// # Errors
+///
+/// Where memory is wanting, or where a pair or a distance is one that no word says.
 pub fn place(alloc: Global, bundles: &Bundles) -> Result<Vec<Instr>, Memory>
     ensures tight { IfOk result (λ instrs. IsTight (map word_of instrs.items)) }
 {
@@ -51,6 +55,6 @@ pub fn place(alloc: Global, bundles: &Bundles) -> Result<Vec<Instr>, Memory>
     let pieces = pieces_of(alloc, &leads, &bundles.blocks)?;
     let mut words = words_of(alloc, &pieces)?;
     number_of(words.len())?;
-    tighten(&mut words);
+    tighten(&mut words)?;
     instrs_of(alloc, &words)
 }

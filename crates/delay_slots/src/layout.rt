@@ -51,19 +51,19 @@ fn starts_of(alloc: Global, pieces: &[Piece]) -> Result<Vec<u32>, AllocError> {
     Ok(starts)
 }
 
-fn start_of(starts: &[u32], block: u32) -> u32 {
+fn start_of(starts: &[u32], block: u32) -> Result<u32, AllocError> {
     match starts.get(block as usize) {
-        None => 0,
-        Some(start) => *start,
+        None => Err(AllocError),
+        Some(start) => Ok(*start),
     }
 }
 
 /// How far a branch at a place goes to another: it counts from the word after its slots.
-fn distance(place: u32, target: u32) -> i32 {
+fn distance(place: u32, target: u32) -> Result<i32, AllocError> {
     let words = i64::from(target) - i64::from(place) - 4;
     match i32::try_from(words) {
-        Ok(words) => words,
-        Err(_) => 0,
+        Ok(words) => Ok(words),
+        Err(_) => Err(AllocError),
     }
 }
 
@@ -73,7 +73,7 @@ fn put_branch(
     place: u32,
     target: u32,
 ) -> Result<(), AllocError> {
-    let words_on = distance(place, target);
+    let words_on = distance(place, target)?;
     put(
         words,
         Form::Bra {
@@ -124,17 +124,22 @@ fn put_exit(
     match piece.way {
         Way::Through => put_pad(words, piece.pad),
         Way::Always(block) => {
-            put_branch(words, BraCond::Always, place, start_of(starts, block))?;
+            put_branch(words, BraCond::Always, place, start_of(starts, block)?)?;
             put_slots(words, slots)
         }
         Way::When { cond, yes } => {
-            put_branch(words, cond, place, start_of(starts, yes))?;
+            put_branch(words, cond, place, start_of(starts, yes)?)?;
             put_slots(words, slots)
         }
         Way::Both { cond, yes, no } => {
-            put_branch(words, cond, place, start_of(starts, yes))?;
+            put_branch(words, cond, place, start_of(starts, yes)?)?;
             put_slots(words, slots)?;
-            put_branch(words, BraCond::Always, sum(place, 4)?, start_of(starts, no))?;
+            put_branch(
+                words,
+                BraCond::Always,
+                sum(place, 4)?,
+                start_of(starts, no)?,
+            )?;
             put_blanks(words, SLOTS)
         }
         Way::End => put_end(words),

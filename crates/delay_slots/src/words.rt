@@ -36,29 +36,19 @@ pub fn blank(head: Head) -> Form {
     }
 }
 
-/// A branch of no condition to the word after its slots.
-#[tactic(auto, unfolding(qpu_encode::specs::WordFields::is_in_profile, qpu_encode::specs::WordFields::is_distance))]
-fn still() -> Instr {
-    Instr {
-        form: Form::Bra {
-            cond: BraCond::Always,
-            words: 0,
-        },
-    }
-}
-
-/// The instruction of a form. Each form that is made here is in the profile.
-pub fn instr_of(form: Form) -> Instr {
+/// The instruction of a form. None is outside the profile that is made here of blocks of pairs that words can say; another one is
+/// answered as want of memory.
+pub fn instr_of(form: Form) -> Result<Instr, AllocError> {
     if is_in_profile(&form) {
-        Instr { form }
+        Ok(Instr { form })
     } else {
-        still()
+        Err(AllocError)
     }
 }
 
 /// Puts the word of a form at the end.
 pub fn put(words: &mut Vec<u64>, form: Form) -> Result<(), AllocError> {
-    words.push(encode(&instr_of(form)))?;
+    words.push(encode(&instr_of(form)?))?;
     Ok(())
 }
 

@@ -11,6 +11,7 @@ use Rattle.vop_ir.specs.declared.form.Turn.TheVariants as turn
 use Rattle.phys_ir.specs.declared.form.PSrc.{PSrc}
 use Rattle.phys_ir.specs.declared.form.PSrc.TheVariants as psrc
 use Rattle.phys_ir.specs.declared.form.PDst.{PDst}
+use Rattle.phys_ir.specs.declared.form.PDst.TheVariants as pdst
 use Rattle.phys_ir.specs.declared.form.Pop.{Pop}
 use Rattle.phys_ir.specs.declared.form.Pair.{Pair}
 use Rattle.tight_words.specs.declared.meaning.Source.{Source}
@@ -160,10 +161,10 @@ meaning_of_pair p =
 
 -- ---- which parts a pair may have
 
-abbrev pub is_turn : Turn → Bool
-is_turn turn.Not = true
-is_turn (turn.By n) = nat_le 1 n && nat_le n 15
-is_turn turn.ByFive = true
+abbrev pub is_turn_in_range : Turn → Bool
+is_turn_in_range turn.Not = true
+is_turn_in_range (turn.By n) = nat_le 1 n && nat_le n 15
+is_turn_in_range turn.ByFive = true
 
 abbrev pub is_unturned : Turn → Bool
 is_unturned turn.Not = true
@@ -187,14 +188,43 @@ abbrev pub is_add : Option Pop → Bool
 is_add None = true
 is_add (Some o) = suits_add_unit o.op && is_unturned o.turn
 
+-- what is rotated stands in accumulators
+abbrev pub is_acc : PSrc → Bool
+is_acc (psrc.Acc r) = true
+is_acc _ = false
+
+abbrev pub turns_right : Pop → Bool
+turns_right o = is_unturned o.turn || (is_turn_in_range o.turn && (is_acc o.a && is_acc o.b))
+
 abbrev pub is_mul : Option Pop → Bool
 is_mul None = true
-is_mul (Some o) = suits_mul_unit o.op && (is_turn o.turn && (o.unpack == 0))
+is_mul (Some o) = suits_mul_unit o.op && (turns_right o && (o.unpack == 0))
 
 -- flags come from the add unit where it has an operation
 abbrev pub is_flagged : Option Pop → Option Pop → Bool
 is_flagged None mul = true
 is_flagged (Some o) mul = not (flags_of mul)
 
+-- a target that is an access of a peripheral
+abbrev pub is_port : PDst → Bool
+is_port pdst.Vpm = true
+is_port pdst.ReadSet = true
+is_port pdst.WriteSet = true
+is_port pdst.LoadAddr = true
+is_port pdst.StoreAddr = true
+is_port pdst.Unlock = true
+is_port _ = false
+
+abbrev pub writes_port : Option Pop → Bool
+writes_port None = false
+writes_port (Some o) = is_port o.dst
+
+abbrev pub total : Reads → ℕ
+total r = (r.uniform + r.row) + ((r.load_wait + r.store_wait) + r.lock)
+
+-- how many accesses of peripherals a part has
+abbrev pub accesses_of : Option Pop → ℕ
+accesses_of part = total (reads_of part) + count (writes_port part)
+
 unfoldable pub is_in_place : Pair → Bool
-is_in_place p = (is_add p.add && is_mul p.mul) && is_flagged p.add p.mul
+is_in_place p = ((is_add p.add && is_mul p.mul) && is_flagged p.add p.mul) && nat_le (accesses_of p.add + accesses_of p.mul) 1

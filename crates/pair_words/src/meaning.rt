@@ -259,8 +259,8 @@ pub fn meaning_of_pair(pair: &Pair) -> Meaning
 }
 
 // By how many elements a rotation may turn.
-fn is_turn(turn: Turn) -> bool
-    ensures { result ≡ spec.is_turn turn }
+fn is_turn_in_range(turn: Turn) -> bool
+    ensures { result ≡ spec.is_turn_in_range turn }
 {
     match turn {
         Turn::Not => true,
@@ -308,12 +308,25 @@ fn is_add(part: &Option<Pop>) -> bool
     }
 }
 
+fn is_acc(operand: PSrc) -> bool
+    ensures { result ≡ spec.is_acc operand }
+{
+    matches!(operand, PSrc::Acc(_))
+}
+
+// What is rotated stands in accumulators.
+fn turns_right(pop: &Pop) -> bool
+    ensures { result ≡ spec.turns_right pop.now }
+{
+    is_unturned(pop.turn) || (is_turn_in_range(pop.turn) && (is_acc(pop.a) && is_acc(pop.b)))
+}
+
 fn is_mul(part: &Option<Pop>) -> bool
     ensures { result ≡ spec.is_mul part.now }
 {
     match part {
         None => true,
-        Some(pop) => suits_mul_unit(pop.op) && (is_turn(pop.turn) && pop.unpack == 0),
+        Some(pop) => suits_mul_unit(pop.op) && (turns_right(pop) && pop.unpack == 0),
     }
 }
 
@@ -327,10 +340,54 @@ fn is_flagged(pair: &Pair) -> bool
     }
 }
 
-/// Each part suits its unit, and the flags come from the part that sets them.
+fn is_port(dst: PDst) -> bool
+    ensures { result ≡ spec.is_port dst }
+{
+    match dst {
+        PDst::Vpm => true,
+        PDst::ReadSet => true,
+        PDst::WriteSet => true,
+        PDst::LoadAddr => true,
+        PDst::StoreAddr => true,
+        PDst::Unlock => true,
+        PDst::A(_) => false,
+        PDst::B(_) => false,
+        PDst::Acc(_) => false,
+        PDst::Five => false,
+        PDst::Nowhere => false,
+    }
+}
+
+fn writes_port(part: &Option<Pop>) -> bool
+    ensures { result ≡ spec.writes_port part.now }
+{
+    match part {
+        None => false,
+        Some(pop) => is_port(pop.dst),
+    }
+}
+
+fn total(reads: Reads) -> u8
+    requires { spec.AreFew reads }
+    ensures is { result ≡ spec.total reads }
+    ensures most { result < 6 }
+{
+    (reads.uniform + reads.row) + ((reads.load_wait + reads.store_wait) + reads.lock)
+}
+
+// How many accesses of peripherals a part has.
+fn accesses_of(part: &Option<Pop>) -> u8
+    ensures is { result ≡ spec.accesses_of part.now }
+    ensures most { result < 7 }
+{
+    total(reads_of(part)) + counted(writes_port(part))
+}
+
+/// Each part suits its unit, the flags come from the part that sets them, and they have one access of a peripheral at most.
 #[tactic(auto, unfolding(crate::specs::PairMeaning::is_in_place))]
 pub fn is_in_place(pair: &Pair) -> bool
     ensures { result ≡ spec.is_in_place pair.now }
 {
-    (is_add(&pair.add) && is_mul(&pair.mul)) && is_flagged(pair)
+    ((is_add(&pair.add) && is_mul(&pair.mul)) && is_flagged(pair))
+        && accesses_of(&pair.add) + accesses_of(&pair.mul) <= 1
 }

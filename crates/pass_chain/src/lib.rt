@@ -74,6 +74,17 @@ pub fn module_for(alloc: Global, body: &Body, kinds: Vec<Kind>) -> Result<Module
     module_of(placed.rows, kinds, words)
 }
 
+/// The same of a body that isn't needed further.
+fn module_from(alloc: Global, body: Body, kinds: Vec<Kind>) -> Result<Module, LimitFault> {
+    let module = module_for(alloc, &body, kinds);
+    // How a body is dropped is a matter of its forms, and stands in no function of this crate so.
+    drop(body);
+    match module {
+        Ok(module) => Ok(module),
+        Err(_) => Err(LimitFault::Memory),
+    }
+}
+
 /// The module of the kernel of this number, whose parameters are of these kinds, or the limit that it passes.
 pub fn chain(
     alloc: Global,
@@ -81,9 +92,8 @@ pub fn chain(
     kernel: u32,
     kinds: Vec<Kind>,
 ) -> Result<Module, LimitFault> {
-    let body = inline(alloc, typed, kernel)?;
-    match module_for(alloc, &body, kinds) {
-        Ok(module) => Ok(module),
-        Err(_) => Err(LimitFault::Memory),
+    match inline(alloc, typed, kernel) {
+        Ok(body) => module_from(alloc, body, kinds),
+        Err(fault) => Err(fault),
     }
 }

@@ -82,6 +82,11 @@ fn rows_with(ir: &VopIr, plan: &Plan) -> Result<u32, Memory>
 
 /// The same run in files A and B, r0 to r3 and added rows of the scratch. With at most 32 registers there are no such
 /// rows.
+///
+/// # Errors
+///
+/// Where memory is wanting. The last proposal always holds where sections name at most sixteen registers; one that doesn't
+/// is refused, too.
 pub fn allocate(alloc: Global, ir: &VopIr) -> Result<PhysIr, Memory>
     ensures rows { IfOk result (λ p. ir.now.rows ≤ p.rows) }
     ensures exits { IfOk result (λ p. map exit_over p.blocks.items ≡ map exit_from ir.now.blocks.items) }
@@ -103,6 +108,9 @@ pub fn allocate(alloc: Global, ir: &VopIr) -> Result<PhysIr, Memory>
     }
     let plan = simple_plan(alloc, ir)?;
     let blocks = blocks_by(alloc, &mut known, ground_of(ir, &plan), &ir.blocks)?;
+    if !known.is_right {
+        return Err(AllocError);
+    }
     Ok(PhysIr {
         rows: rows_with(ir, &plan)?,
         blocks,
