@@ -77,7 +77,7 @@ pub fn module_for(alloc: Global, body: &Body, kinds: Vec<Kind>) -> Result<Module
 /// The same of a body that isn't needed further.
 fn module_from(alloc: Global, body: Body, kinds: Vec<Kind>) -> Result<Module, LimitFault> {
     let module = module_for(alloc, &body, kinds);
-    // How a body is dropped is a matter of its forms, and stands in no function of this crate so.
+    // Dropped by a call, so that no proof here looks at each form of a tree.
     drop(body);
     match module {
         Ok(module) => Ok(module),
