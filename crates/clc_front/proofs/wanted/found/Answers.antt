@@ -14,7 +14,7 @@ returns-in_err-limit-in-Some-clause-refused c = λ rule at e.
     let number = c.in-Some.kernel in
     let large : IsTooLarge functions number rule at
     = handed_on functions number c.from_residual-in_err-limit-in-Some.result c.in_err-limit-in-Some.field-0.0 c.from_residual-in_err-limit-in-Some.ensures.1
-      (λ r p is. subst (λ fs. IsTooLarge fs number r p) c.as_slice.ensures (c.in_err-limit-in-Some.ensures.refused r p is)) rule at e in
+    (λ r p is. subst (λ fs. IsTooLarge fs number r p) c.as_slice.ensures (c.in_err-limit-in-Some.ensures.refused r p is)) rule at e in
     too_large functions number rule at c.in_ok-typed.ensures.ok (sym c.kernel.ensures ∙ c.in-Some.is) large
 
 pub returns-in_ok-limit-in-Some-clause-kernel : goal.returns-in_ok-limit-in-Some-clause-kernel
