@@ -5,13 +5,15 @@ use crate::launches::{output_name, with_outputs};
 use crate::report::{Counts, counts_in};
 use clc_front::front;
 use clc_inline::LimitFault;
+use clc_types::Typed;
 use command_answers::RowFault;
 use delay_slots::loose;
 use kernel_meaning::{Bytes, Verdict};
-use launch_file::read_launch;
+use launch_file::{Launch, read_launch};
 use pass_chain::chain;
 use promise::Refusal;
 use q_io::{SureFiles, SureSink, Text};
+use q_lane::Kind;
 use std::alloc::{AllocError, Global};
 use std::collections::BTreeMap;
 use vc4c_core::{code, run};
@@ -192,28 +194,78 @@ fn unsafe_launch(alloc: Global, verdict: &Verdict) -> Result<Outcome, RowFault> 
     Ok(Outcome::Differs(told))
 }
 
-/// Compiles the kernel by the passes, runs it under the launch's schedule, and compares its buffers with those that its source means.
-pub fn attempt(alloc: Global, trial: Trial<'_>) -> Result<Outcome, RowFault> {
-    let wanted = match front(alloc, trial.source, trial.kernel.as_bytes()) {
-        Ok(wanted) => wanted,
-        Err(refusal) => return refused(alloc, refusal),
-    };
-    let module = match chain(alloc, &wanted.typed, wanted.kernel, wanted.kinds) {
-        Ok(module) => module,
-        Err(fault) => return limited(alloc, fault),
-    };
-    if let Some(at) = loose(&module.words) {
+/// A kernel of a typed tree, and the module that the passes make of it.
+#[derive(Clone, Copy)]
+struct Compiled<'a> {
+    typed: &'a Typed,
+    kernel: u32,
+    module: &'a Module,
+}
+
+/// Runs a module under a launch that is safe, and compares the buffers.
+fn ran(
+    alloc: Global,
+    trial: Trial<'_>,
+    module: &Module,
+    launch: &str,
+    wanted: &[Bytes],
+) -> Result<Outcome, RowFault> {
+    let ran = executed(alloc, trial.files, module, launch)?;
+    finding(alloc, module, &ran, wanted)
+}
+
+/// Runs a module where the launch is safe by the source.
+fn judged(
+    alloc: Global,
+    trial: Trial<'_>,
+    compiled: Compiled<'_>,
+    text: &str,
+    launch: &Launch,
+) -> Result<Outcome, RowFault> {
+    match verdict(alloc, compiled.typed, compiled.kernel, launch, trial.files)? {
+        Verdict::Safe { buffers, .. } => ran(alloc, trial, compiled.module, text, &buffers),
+        other => unsafe_launch(alloc, &other),
+    }
+}
+
+/// Runs a tight module under the launch.
+fn launched(alloc: Global, trial: Trial<'_>, compiled: Compiled<'_>) -> Result<Outcome, RowFault> {
+    if let Some(at) = loose(&compiled.module.words) {
         return Ok(Outcome::Differs(format!(in alloc; "loose at {at}")?));
     }
-    let launch_text = with_outputs(alloc, trial.launch)?;
-    let Ok(launch) = read_launch(alloc, launch_text.as_bytes()) else {
-        return Ok(Outcome::Differs(String::from_str(alloc, "no launch")?));
-    };
-    match verdict(alloc, &wanted.typed, wanted.kernel, &launch, trial.files)? {
-        Verdict::Safe { buffers, .. } => {
-            let ran = executed(alloc, trial.files, &module, &launch_text)?;
-            finding(alloc, &module, &ran, &buffers)
-        }
-        other => unsafe_launch(alloc, &other),
+    let text = with_outputs(alloc, trial.launch)?;
+    match read_launch(alloc, text.as_bytes()) {
+        Ok(launch) => judged(alloc, trial, compiled, &text, &launch),
+        Err(_) => Ok(Outcome::Differs(String::from_str(alloc, "no launch")?)),
+    }
+}
+
+/// Compiles a kernel, and runs it.
+fn compiled(
+    alloc: Global,
+    trial: Trial<'_>,
+    typed: &Typed,
+    kernel: u32,
+    kinds: Vec<Kind>,
+) -> Result<Outcome, RowFault> {
+    match chain(alloc, typed, kernel, kinds) {
+        Ok(module) => launched(
+            alloc,
+            trial,
+            Compiled {
+                typed,
+                kernel,
+                module: &module,
+            },
+        ),
+        Err(fault) => limited(alloc, fault),
+    }
+}
+
+/// Compiles the kernel by the passes, runs it under the launch's schedule, and compares its buffers with those that its source means.
+pub fn attempt(alloc: Global, trial: Trial<'_>) -> Result<Outcome, RowFault> {
+    match front(alloc, trial.source, trial.kernel.as_bytes()) {
+        Ok(wanted) => compiled(alloc, trial, &wanted.typed, wanted.kernel, wanted.kinds),
+        Err(refusal) => refused(alloc, refusal),
     }
 }
