@@ -135,7 +135,7 @@ fn compared(
     Ok(Ok(buffers))
 }
 
-fn finding(
+fn finding_of(
     alloc: Global,
     module: &Module,
     ran: &Ran,
@@ -203,7 +203,7 @@ struct Compiled<'a> {
 }
 
 /// Runs a module under a launch that is safe, and compares the buffers.
-fn ran(
+fn run_compared(
     alloc: Global,
     trial: Trial<'_>,
     module: &Module,
@@ -211,7 +211,7 @@ fn ran(
     wanted: &[Bytes],
 ) -> Result<Outcome, RowFault> {
     let ran = executed(alloc, trial.files, module, launch)?;
-    finding(alloc, module, &ran, wanted)
+    finding_of(alloc, module, &ran, wanted)
 }
 
 /// Runs a module where the launch is safe by the source.
@@ -223,7 +223,13 @@ fn judged(
     launch: &Launch,
 ) -> Result<Outcome, RowFault> {
     match verdict(alloc, compiled.typed, compiled.kernel, launch, trial.files)? {
-        Verdict::Safe { buffers, .. } => ran(alloc, trial, compiled.module, text, &buffers),
+        Verdict::Safe { buffers, .. } => run_compared(
+            alloc,
+            trial,
+            compiled.module,
+            text,
+            &buffers,
+        ),
         other => unsafe_launch(alloc, &other),
     }
 }
@@ -241,7 +247,7 @@ fn launched(alloc: Global, trial: Trial<'_>, compiled: Compiled<'_>) -> Result<O
 }
 
 /// Compiles a kernel, and runs it.
-fn compiled(
+fn compile_and_run(
     alloc: Global,
     trial: Trial<'_>,
     typed: &Typed,
@@ -265,7 +271,7 @@ fn compiled(
 /// Compiles the kernel by the passes, runs it under the launch's schedule, and compares its buffers with those that its source means.
 pub fn attempt(alloc: Global, trial: Trial<'_>) -> Result<Outcome, RowFault> {
     match front(alloc, trial.source, trial.kernel.as_bytes()) {
-        Ok(wanted) => compiled(alloc, trial, &wanted.typed, wanted.kernel, wanted.kinds),
+        Ok(wanted) => compile_and_run(alloc, trial, &wanted.typed, wanted.kernel, wanted.kinds),
         Err(refusal) => refused(alloc, refusal),
     }
 }
