@@ -1,11 +1,11 @@
 //! What a launch of a source means.
 
-ghost use Rattle.std.specs.Prelude.{◌≡◌, length, IfOk};
+ghost use Rattle.std.specs.Prelude.{◌≡◌, ◌<◌, ◌^◌, length, IfOk, OnOk};
+ghost use Rattle.launch_meaning.specs.Small.{AreSmall};
 
 use clc_types::Typed;
 use kernel_meaning::{Bytes, Verdict, judge};
 use launch_file::{BufferLine, Launch};
-use launch_meaning::Buffers;
 use q_io::Text;
 use sqlite_items::Items;
 use std::alloc::{AllocError, Global};
@@ -25,13 +25,24 @@ fn sized(alloc: Global, bytes: &[u8], size: u32) -> Result<Bytes, AllocError>
     Items::from_slice(alloc, &all)
 }
 
+fn add(buffers: &mut Vec<Bytes>, bytes: Bytes) -> Result<(), AllocError>
+    requires one { length bytes < 2 ^ 32 }
+    requires others { AreSmall buffers.old.items }
+    ensures { OnOk result (AreSmall buffers.new.items) }
+{
+    buffers.push(bytes)?;
+    Ok(())
+}
+
 /// The buffers of a launch before it runs.
 fn opening(
     alloc: Global,
     lines: &[BufferLine],
     files: &BTreeMap<Text, Vec<u8>>,
-) -> Result<Vec<Bytes>, AllocError> {
-    let mut buffers = Buffers::new(alloc);
+) -> Result<Vec<Bytes>, AllocError>
+    ensures { IfOk result (λ v. AreSmall v.items) }
+{
+    let mut buffers = Vec::new(alloc);
     for line in lines {
         let bytes: &[u8] = match &line.from {
             Some(name) => match files.get(name) {
@@ -40,9 +51,9 @@ fn opening(
             },
             None => &[],
         };
-        buffers.push(sized(alloc, bytes, line.size)?)?;
+        add(&mut buffers, sized(alloc, bytes, line.size)?)?;
     }
-    Ok(buffers.into_vec())
+    Ok(buffers)
 }
 
 /// The verdict on a launch of the kernel of this number.

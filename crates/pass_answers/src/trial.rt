@@ -234,15 +234,28 @@ fn judged(
     }
 }
 
+/// The launch that a text tells, where it tells one.
+fn launch_of(alloc: Global, text: &str) -> Option<Launch> {
+    let bytes = text.as_bytes();
+    if bytes.len() > u32::MAX as usize {
+        return None;
+    }
+    match read_launch(alloc, bytes) {
+        Ok(launch) => Some(launch),
+        Err(_) => None,
+    }
+}
+
 /// Runs a tight module under the launch.
 fn launched(alloc: Global, trial: Trial<'_>, compiled: Compiled<'_>) -> Result<Outcome, RowFault> {
-    if let Some(at) = loose(&compiled.module.words) {
+    let module = compiled.module;
+    if let Some(at) = loose(&module.words) {
         return Ok(Outcome::Differs(format!(in alloc; "loose at {at}")?));
     }
     let text = with_outputs(alloc, trial.launch)?;
-    match read_launch(alloc, text.as_bytes()) {
-        Ok(launch) => judged(alloc, trial, compiled, &text, &launch),
-        Err(_) => Ok(Outcome::Differs(String::from_str(alloc, "no launch")?)),
+    match launch_of(alloc, &text) {
+        Some(launch) => judged(alloc, trial, compiled, &text, &launch),
+        None => Ok(Outcome::Differs(String::from_str(alloc, "no launch")?)),
     }
 }
 
@@ -271,7 +284,10 @@ fn compile_and_run(
 /// Compiles the kernel by the passes, runs it under the launch's schedule, and compares its buffers with those that its source means.
 pub fn attempt(alloc: Global, trial: Trial<'_>) -> Result<Outcome, RowFault> {
     match front(alloc, trial.source, trial.kernel.as_bytes()) {
-        Ok(wanted) => compile_and_run(alloc, trial, &wanted.typed, wanted.kernel, wanted.kinds),
+        Ok(wanted) => {
+            let kinds = wanted.kinds;
+            compile_and_run(alloc, trial, &wanted.typed, wanted.kernel, kinds)
+        }
         Err(refusal) => refused(alloc, refusal),
     }
 }
