@@ -1,7 +1,7 @@
 //! The pass.
 
 ghost use Rattle.std.specs.Prelude.{◌≡◌, ◌+◌, IfOk, true};
-ghost use Rattle.lane_ir.specs.Batch.{counts_of, is_valid};
+ghost use Rattle.lane_ir.specs.Batch.{counts_of};
 ghost use Rattle.lane_ir.specs.Kept.{RunsAs, each_def_all};
 ghost use Rattle.arith_expand.specs.Expand.{is_free};
 
@@ -24,8 +24,7 @@ pub fn expand(alloc: Global, ir: &LaneIr) -> Result<LaneIr, Memory>
     ensures arrays { IfOk result (λ r. r.arrays.items ≡ ir.now.arrays.items) }
     ensures kinds { IfOk result (λ r. r.kinds.items ≡ ir.now.kinds.items) }
     ensures undivided { IfOk result (λ r. each_def_all is_free r.body.items ≡ true) }
-    ensures valid { IfOk result (λ r. is_valid ir.now ≡ true → is_valid r ≡ true) }
-    ensures same { IfOk result (λ r. is_valid ir.now ≡ true → RunsAs (counts_of ir.now) ir.now.body.items r.body.items 33) }
+    ensures same { IfOk result (λ r. RunsAs (counts_of ir.now) ir.now.body.items r.body.items 33) }
 {
     let vals = with_temporaries(ir.vals)?;
     let body = walked(alloc, ir.vals, &ir.body)?;

@@ -1,3 +1,4 @@
 pub mod Called
 pub mod Chains
 pub mod Numbers
+pub mod NamedForms

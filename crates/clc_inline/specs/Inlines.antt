@@ -4,7 +4,7 @@ use Rattle.clc_types.specs.declared.typed.TFunction.{TFunction}
 use Rattle.clc_counts.specs.declared.limits.LimitFault.{LimitFault}
 use Rattle.clc_counts.specs.Counts.{tally_of}
 use Rattle.clc_counts.specs.Limits.{IsWithin, Exceeds}
-use Rattle.clc_inline.specs.declared.body.Body.{Body}
+use Rattle.clc_inline.specs.declared.whole.Body.{Body}
 use Rattle.clc_inline.specs.Inlining.{just, inlined, params_in}
 
 -- what a kernel within its limits is inlined to, with its parameters and its number of nodes

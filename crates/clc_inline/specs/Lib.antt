@@ -1,3 +1,5 @@
 pub mod Inlines
 pub mod Inlining
 pub mod InSetting
+pub mod Named
+pub mod NamedLists

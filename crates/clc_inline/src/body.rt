@@ -1,7 +1,7 @@
-//! A kernel's body without calls.
+//! Trees without calls.
 
 use clc_lexer::Mark;
-use clc_types::{Builtin, Ty, Var};
+use clc_types::{Builtin, Ty};
 use q_lane::Scalar;
 use sqlite_items::{Boxed, Items};
 
@@ -97,14 +97,4 @@ pub enum TStmt {
     Break,
     Continue,
     Return(Option<TExpr>),
-}
-
-/// A kernel with each call of a function replaced by a scope. `nodes` is the number of its nodes, each call with those of
-/// the called body, and the first `params` of its variables are its parameters.
-#[derive(Drop)]
-pub struct Body {
-    pub vars: Vec<Var>,
-    pub params: u32,
-    pub nodes: u32,
-    pub body: TStmt,
 }

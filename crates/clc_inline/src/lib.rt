@@ -3,10 +3,13 @@
 
 mod body;
 mod kernel;
+mod named;
 mod number;
 mod scopes;
 mod setting;
+mod whole;
 
-pub use body::{Body, Node, TExpr, TStmt};
+pub use body::{Node, TExpr, TStmt};
 pub use clc_counts::LimitFault;
 pub use kernel::inline;
+pub use whole::Body;

@@ -29,7 +29,7 @@ use Rattle.ir_build.specs.declared.places.Target.{Target}
 use Rattle.ir_build.specs.declared.places.Target.TheVariants.{Into, Cell, Behind, Nowhere}
 use Rattle.ir_build.specs.declared.scopes.Back.{Back}
 use Rattle.ir_build.specs.Code.{v, Code, PlaceCode, ArgsCode, Stmts, one, with_code, truth_code, not_code, zero_test, way_of, way_code, prefix_code, moved_code, move_of, combined_code, converted_code, into, behind, cell, get_code, put_stmts, put_code, read_code, assign_code, compound_code, assigned_code, valued_at, stepped_code, step_code, into_code, truth_choice, choice_code, truth_of_operand, and_code, or_code, conditional_code, operator_code, no_args, more_args, work_code, function_code, pass_code, scope_code, nothing, effect, both, cleared_code, init_code, if_code, loop_code, do_code, given_code, back_code}
-use Rattle.ir_build.specs.Named.{all_below}
+use Rattle.clc_inline.specs.Named.{all_below}
 use Rattle.ir_build.proofs.ByMarks.{prefix_by, assigned_by, operator_by}
 use Rattle.ir_build.proofs.Known.{Low, known_in, known_append, Bounds, Fine, fine_nil, fine_append, fine_only, Good, is_place, GoodPlace, GoodArgs, FineStmts, place_more, good_none, good_one, good_with, good_after_place, fine_both, fine_if, fine_loop, fine_scope, known_more, low_more}
 

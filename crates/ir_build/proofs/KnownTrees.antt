@@ -19,7 +19,7 @@ use Rattle.item_ir.specs.declared.form.Stmt.TheVariants.{Let, Set, Break as Brea
 use Rattle.ir_build.specs.declared.scopes.Back.{Back}
 use Rattle.ir_build.specs.Code.{v, Code, Stmts, with_code, prefix_code, moved_code, converted_code, into, behind, cell, step_code, assigned_code, operator_code, function_code, scope_code, nothing, cleared_code, init_code, declare_code, loop_code, type_in, code_of, code_in, chain_code, place_of, place_in, args_code, stmt_code, code_if, test_code, step_stmts, return_code, all_code, in_code, else_code, begin_code, begin_with_code}
 use Rattle.ir_build.specs.Build.{params_code, body_code}
-use Rattle.ir_build.specs.Named.{all_below, is_node, in_box, in_chain, in_args, is_statement, if_there, in_block, in_body, in_else, in_beginnings, is_beginning, is_named}
+use Rattle.clc_inline.specs.Named.{all_below, is_node, in_box, in_chain, in_args, is_statement, if_there, in_block, in_body, in_else, in_beginnings, is_beginning, is_named}
 use Rattle.ir_build.proofs.Known.{Low, known_in, Bounds, Fine, fine_nil, fine_append, fine_let, fine_only, Good, good_none, good_with, good_after_place, good_after_args, fine_both}
 use Rattle.ir_build.proofs.KnownPieces.{Makes, Finds, Lists, Does, DoesFrom, good_const, good_prefix, good_converted, good_read, finds_into, finds_behind, finds_cell, finds_none, makes_moved, good_step, good_assigned, good_operator, makes_conditional, lists_none, lists_more, good_function, good_scope, does_nothing, does_both, does_clear, does_init, does_back, does_leave, does_if, does_loop, does_do, fine_stored}
 

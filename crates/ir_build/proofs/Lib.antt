@@ -4,7 +4,6 @@ pub mod Joins
 pub mod Known
 pub mod KnownPieces
 pub mod KnownTrees
-pub mod NamedForms
 pub mod Rows
 pub mod Steps
 pub mod Whole

@@ -9,7 +9,7 @@ use Rattle.q_lane.specs.declared.kinds.Kind.{Kind}
 use Rattle.ir_build.specs.Adds.{Grows}
 use Rattle.ir_build.specs.Code.{Stmts, stmt_code}
 use Rattle.ir_build.specs.Build.{params_code, body_code, array_length, kinds_of}
-use Rattle.ir_build.specs.Named.{is_named}
+use Rattle.clc_inline.specs.Named.{is_named}
 use Rattle.ir_build.proofs.KnownTrees.{body_valid, few_params}
 
 -- the statements of the body are added after those of the parameters

@@ -2,5 +2,3 @@ pub mod Code
 pub mod Adds
 pub mod Lists
 pub mod Build
-pub mod Named
-pub mod NamedLists

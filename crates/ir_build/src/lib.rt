@@ -3,7 +3,6 @@
 
 mod code;
 mod functions;
-mod named;
 mod operators;
 mod pass;
 mod pieces;

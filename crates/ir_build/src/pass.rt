@@ -4,7 +4,6 @@ ghost use Rattle.std.specs.Prelude.{◌≡◌, ◌+◌, ◌++◌, IfOk, map, len
 ghost use Rattle.ir_build.specs.Build.{params_code, body_code, array_length as array_length_of, kind_of as kind_of_var, kinds_of};
 
 use crate::code::statement;
-use crate::named::is_sound;
 use crate::pieces::{Memory, after, define};
 use crate::scopes::Back;
 use clc_inline::Body;
@@ -88,7 +87,7 @@ fn count(vars: &[Var]) -> Result<u32, Memory>
 ///
 /// # Errors
 ///
-/// Where memory is wanting, or where the body names what isn't there.
+/// Where memory or numbers are wanting.
 pub fn build(alloc: Global, body: &Body) -> Result<Ir, Memory>
     ensures code { IfOk result (λ ir. ir.body.items ≡ (body_code body.now.vars.items body.now.params body.now.body).stmts) }
     ensures vals { IfOk result (λ ir. ir.vals ≡ (body_code body.now.vars.items body.now.params body.now.body).next) }
@@ -96,9 +95,6 @@ pub fn build(alloc: Global, body: &Body) -> Result<Ir, Memory>
     ensures arrays { IfOk result (λ ir. ir.arrays.items ≡ map array_length_of body.now.vars.items) }
     ensures kinds { IfOk result (λ ir. ir.kinds.items ≡ kinds_of body.now.vars.items body.now.params) }
 {
-    if !is_sound(body) {
-        return Err(AllocError);
-    }
     let vars = body.vars.as_slice();
     let result = count(vars)?;
     let back = Back {

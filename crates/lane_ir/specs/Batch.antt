@@ -1,12 +1,8 @@
 -- A batch as a whole.
-use Rattle.std.specs.Prelude.{Bool, length}
+use Rattle.std.specs.Prelude.{length}
 use Rattle.lane_ir.specs.declared.ir.LaneIr.{LaneIr}
-use Rattle.lane_ir.specs.Valid.{Counts, counted, is_body}
+use Rattle.lane_ir.specs.Valid.{Counts, counted}
 
 -- how many values, variables, private arrays and parameters it has
 abbrev pub counts_of : LaneIr → Counts
 counts_of b = counted b.vals b.vars (length b.arrays.items) (length b.kinds.items)
-
--- its body names only what is there
-abbrev pub is_valid : LaneIr → Bool
-is_valid b = is_body (counts_of b) b.body.items

@@ -1,6 +1,6 @@
 -- A batch whose item names only what is there names only what is there.
-use Rattle.std.proofs.Common.{◌≡◌, ℕ, zero, suc, ◌+◌, ◌*◌, ◌<◌, ◌≤◌, Bool, true, false, List, [], ◌∷◌, ◌++◌, refl, sym, ap, ◌∙◌, arith}
-use Rattle.std.specs.Prelude.{◌&&◌, ◌||◌, ◌==◌, not, nat_lt, max, get_or}
+use Rattle.std.proofs.Common.{◌≡◌, ℕ, zero, suc, ◌+◌, ◌<◌, ◌≤◌, Bool, true, false, List, [], ◌∷◌, ◌++◌, refl, ◌∙◌, arith}
+use Rattle.std.specs.Prelude.{◌&&◌, ◌||◌, ◌==◌, not, nat_lt, max}
 use Rattle.std.proofs.Math.Nat.{le-max_left, le-max_right}
 use Rattle.std.proofs.lemmas.Bool.{and_from, and_parts, lt-ltb, ltb-true, eqb-true}
 use Rattle.q_functions.specs.declared.functions.WorkFunction.{WorkFunction}
@@ -18,7 +18,7 @@ use Rattle.lane_ir.specs.Valid.{Counts, counted, is_val, are_vals, is_size, is_d
 use Rattle.lane_ir.proofs.ValidRewrites.{is_stmt-WhileAny, is_body-append}
 use Rattle.lane_mapper.specs.Definitions.{is_definition, are_definitions}
 use Rattle.mask_flow.specs.declared.place.Place.{Place}
-use Rattle.mask_flow.specs.Masked.{val, round_of, loop_of, branch, scope, turning, in_round, outermost, leaves_to, settles, opens, chooses, tests, id, masked, masked_row, masked_all, masked_item, defining, asks}
+use Rattle.mask_flow.specs.Masked.{val, round_of, loop_of, branch, scope, turning, in_round, outermost, settles, opens, chooses, tests, id, masked, masked_row, masked_all, masked_item, defining, asks}
 use Rattle.mask_flow.specs.Heights.{height, height_row, height_all, vals_after, vars_after}
 use Rattle.mask_flow.proofs.Rooms.{Room, fewer, branch_room, scope_room, turning_room, round_room, value_named, first_named, top_named, leaves_named, settles_named, chooses_named, tests_named, opens_named, picks_named}
 

@@ -1,10 +1,9 @@
 -- Places with room for statements that stand in each other so deep, and what their masks' statements name.
-use Rattle.std.proofs.Common.{◌≡◌, ℕ, zero, suc, ◌+◌, ◌*◌, ◌<◌, ◌≤◌, Bool, true, false, List, [], ◌∷◌, ◌++◌, refl, arith}
-use Rattle.std.specs.Prelude.{◌&&◌, nat_lt, get_or}
-use Rattle.std.proofs.lemmas.Bool.{and_from, and_parts, lt-ltb, ltb-true}
+use Rattle.std.proofs.Common.{◌≡◌, ℕ, ◌+◌, ◌*◌, ◌<◌, ◌≤◌, true, List, arith}
+use Rattle.std.specs.Prelude.{nat_lt}
+use Rattle.std.proofs.lemmas.Bool.{lt-ltb}
 use Rattle.item_ir.specs.declared.form.Val.{Val}
-use Rattle.lane_ir.specs.declared.form.LaneStmt.{LaneStmt}
-use Rattle.lane_ir.specs.Valid.{Counts, is_val, are_vals, is_body}
+use Rattle.lane_ir.specs.Valid.{Counts, is_body}
 use Rattle.mask_flow.specs.declared.place.Place.{Place}
 use Rattle.mask_flow.specs.Masked.{or_top, round_of, loop_of, branch, scope, turning, in_round, leaves_to, settles, opens, chooses, tests, small_numbers, picks, id}
 

@@ -1,7 +1,6 @@
 //! The pass.
 
 ghost use Rattle.std.specs.Prelude.{◌≡◌, ◌≤◌, ◌++◌, ◌∷◌, [], true, IfOk};
-ghost use Rattle.lane_ir.specs.Batch.{is_valid};
 ghost use Rattle.lane_mapper.specs.Definitions.{is_definition, are_definitions};
 ghost use Rattle.mask_flow.specs.Masked.{masked_item};
 ghost use Rattle.mask_flow.specs.Heights.{height_all, vals_after, vars_after};
@@ -81,19 +80,19 @@ fn put_item(
     put_body(alloc, out, &prolog.ids, at, &ir.body)
 }
 
-/// A batch of items: the prolog's definitions, and the item's statements under masks, by which each live lane is to do what its item does.
+/// A batch of items: the definitions of a prolog whose values come after the item's, and the item's statements under masks, by which each live lane is to do what its item does.
 /// Which statements these are is what the clauses say; that they do so isn't proved yet.
 ///
 /// # Errors
 ///
 /// Where memory or numbers of values or variables are wanting.
 pub fn mask(alloc: Global, ir: &Ir, prolog: &LaneProlog) -> Result<LaneIr, Memory>
+    requires { ir.now.vals ≤ prolog.now.vals }
     ensures body { IfOk result (λ r. r.body.items ≡ prolog.now.body.items ++ masked_item prolog.now.ids.items prolog.now.live prolog.now.vals ir.now.vars ir.now.body.items) }
     ensures values { IfOk result (λ r. r.vals ≡ vals_after prolog.now.vals (height_all ir.now.body.items)) }
     ensures variables { IfOk result (λ r. r.vars ≡ vars_after ir.now.vars (height_all ir.now.body.items)) }
     ensures arrays { IfOk result (λ r. r.arrays.items ≡ ir.now.arrays.items) }
     ensures kinds { IfOk result (λ r. r.kinds.items ≡ ir.now.kinds.items) }
-    ensures valid { ir.now.vals ≤ prolog.now.vals → IfOk result (λ r. is_valid r ≡ true) }
 {
     let height = height_in(&ir.body)?;
     let vals = vals_of(prolog.vals, height)?;

@@ -2,6 +2,7 @@
 #![tactic(auto)]
 
 pub use crate::rows::PassRows;
+pub use crate::shares::Shares;
 pub use crate::trial::{Finding, Outcome, Trial, attempt};
 pub use command_answers::RowFault;
 
@@ -9,4 +10,5 @@ mod judged;
 mod launches;
 mod report;
 mod rows;
+mod shares;
 mod trial;

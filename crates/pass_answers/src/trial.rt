@@ -3,6 +3,7 @@
 use crate::judged::verdict;
 use crate::launches::{output_name, with_outputs};
 use crate::report::{Counts, counts_in};
+use crate::shares::{Shares, shares_of};
 use clc_front::front;
 use clc_inline::LimitFault;
 use clc_types::Typed;
@@ -28,10 +29,11 @@ pub struct Trial<'a> {
     pub files: &'a BTreeMap<Text, Vec<u8>>,
 }
 
-/// What came of a kernel: its module's size, what its run took, and what it left in the buffers.
+/// What came of a kernel: its module's size and what its words are spent on, what its run took, and what it left in the buffers.
 #[derive(Drop)]
 pub struct Finding {
     pub words: usize,
+    pub shares: Shares,
     pub rows: u32,
     pub counts: Counts,
     pub buffers: Vec<Vec<u8>>,
@@ -152,6 +154,7 @@ fn finding_of(
         Err(difference) => Outcome::Differs(difference),
         Ok(buffers) => Outcome::Same(Finding {
             words: module.words.len(),
+            shares: shares_of(&module.words),
             rows: module.rows,
             counts,
             buffers,

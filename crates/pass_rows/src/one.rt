@@ -1,6 +1,6 @@
 //! One launch of a kernel whose source, launch and buffers are files.
 
-use pass_answers::{Finding, Outcome, RowFault, Trial, attempt};
+use pass_answers::{Finding, Outcome, RowFault, Shares, Trial, attempt};
 use q_io::Text;
 use std::alloc::{AllocError, Global};
 use std::collections::BTreeMap;
@@ -33,10 +33,17 @@ fn inputs<R: Files + AllocGlobal>(
     Ok(files)
 }
 
+fn tell_shares<R: Print>(rt: &R, shares: Shares) -> io::Result<()> {
+    let (idle, pairs) = (shares.idle, shares.pairs);
+    let (slots, idle_slots) = (shares.slots, shares.idle_slots);
+    println!(rt; "idle {idle} pairs {pairs} slots {slots} of them idle {idle_slots}")
+}
+
 fn tell_finding<R: Print>(rt: &R, finding: &Finding) -> io::Result<()> {
     let (words, rows, counts) = (finding.words, finding.rows, finding.counts);
     println!(rt; "same")?;
     println!(rt; "module {words} words {rows} rows")?;
+    tell_shares(rt, finding.shares)?;
     let (steps, issued, loads, stores) = (counts.steps, counts.issued, counts.loads, counts.stores);
     println!(rt; "steps {steps} issued {issued} loads {loads} stores {stores}")
 }

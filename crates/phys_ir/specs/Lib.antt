@@ -1,3 +1,4 @@
 pub mod Places
 pub mod Pairs
 pub mod OneWord
+pub mod Leads

@@ -3,6 +3,8 @@
 
 mod form;
 mod place;
+mod whole;
 
-pub use form::{BundleBlock, Bundles, PDst, PSrc, Pair, PhysBlock, PhysIr, Pop};
+pub use form::{BundleBlock, PDst, PSrc, Pair, PhysBlock, Pop};
 pub use place::{Acc, RegA, RegB};
+pub use whole::{Bundles, PhysIr};

@@ -1,9 +1,7 @@
 pub mod Lists
 pub mod Loops
 pub mod Clearing
-pub mod Parts
 pub mod Operations
 pub mod Pieces
 pub mod Statements
 pub mod Programs
-pub mod Accesses

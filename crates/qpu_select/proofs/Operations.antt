@@ -1,7 +1,7 @@
 -- The operations of definitions and statements are one word each, name registers that are there, and leave the scratch's register as it is.
-use Rattle.std.proofs.Common.{◌≡◌, ℕ, ◌+◌, ◌-◌, ◌^◌, ◌<◌, Bool, true, false, List, [], ◌∷◌, ◌++◌, refl, ◌∙◌, arith}
-use Rattle.std.specs.Prelude.{not, ◌&&◌, ◌||◌, nat_lt, nat_le, ◌==◌, if◌then◌else◌, negsuc, Some, None}
-use Rattle.std.proofs.lemmas.Bool.{and_from, and_parts, not_from_false, lt-ltb, ltb-true, le-leb, leb-true, eq-eqb, ne_eqb, cond_both}
+use Rattle.std.proofs.Common.{◌≡◌, ℕ, ◌+◌, ◌-◌, ◌^◌, ◌<◌, true, false, List, [], ◌∷◌, refl, arith}
+use Rattle.std.specs.Prelude.{◌&&◌, nat_lt, nat_le, ◌==◌, if◌then◌else◌, negsuc}
+use Rattle.std.proofs.lemmas.Bool.{and_parts, lt-ltb, ltb-true, le-leb, leb-true, eq-eqb, ne_eqb, cond_both}
 use Rattle.q_lane.specs.declared.operations.BinOp.{BinOp}
 use Rattle.q_lane.specs.declared.operations.BinOp.TheVariants as bin
 use Rattle.q_lane.specs.declared.operations.UnOp.{UnOp}
@@ -18,114 +18,45 @@ use Rattle.vop_ir.specs.declared.form.Src.TheVariants as src
 use Rattle.vop_ir.specs.declared.form.Dst.TheVariants as dst
 use Rattle.vop_ir.specs.declared.form.Vop.{Vop}
 use Rattle.vop_ir.specs.Operations.{plain, copy, small}
-use Rattle.vop_ir.specs.OneWord.{is_vop}
-use Rattle.vop_ir.specs.Runs.{acquires, releases}
-use Rattle.vop_ir.specs.Valid.{is_below_src, is_below_dst, writes, is_op, are_ops, are_sections}
+use Rattle.vpm_dma_lower.proofs.Fine.{FineOp, FineOps, fine, either_way, if_fine, Own, Below, small_fine, asks_fine, moves_fine}
 use Rattle.qpu_select.specs.Code.{Shape, all_regs, batch_reg, items_reg, temporary, param_reg, dims_reg, global_reg, local_reg, var_reg, constant, moves, asks, compares, move_where_zero, move_where_set, unit_op, two_ops, one_ops, choose_ops, size_ops, work_ops, flat_ops, let_ops, put_ops}
 
--- over these registers, and it leaves register s and the mutex
-pub record FineOp (regs s : ℕ) (o : Vop) : Type 0 where
-  pub word : is_vop o ≡ true
-  pub left : is_below_src regs o.a ≡ true
-  pub right : is_below_src regs o.b ≡ true
-  pub to : is_below_dst regs o.dst ≡ true
-  pub keeps : writes s o.dst ≡ false
-  pub no_acquire : acquires o.op ≡ false
-  pub no_release : releases o.dst ≡ false
-
-abbrev pub FineOps : ℕ → ℕ → List Vop → Type 0
-FineOps regs s [] = Unit {0}
-FineOps regs s (o ∷ os) = FineOp regs s o × FineOps regs s os
-
 module _ (regs s : ℕ) where
-  is_op_fine : (o : Vop) → FineOp regs s o → is_op regs s o ≡ true
-  is_op_fine o f =
-      and_from (is_vop o) (is_below_src regs o.a && (is_below_src regs o.b && (is_below_dst regs o.dst && not (writes s o.dst)))) f.word
-      (and_from (is_below_src regs o.a) (is_below_src regs o.b && (is_below_dst regs o.dst && not (writes s o.dst))) f.left
-      (and_from (is_below_src regs o.b) (is_below_dst regs o.dst && not (writes s o.dst)) f.right
-      (and_from (is_below_dst regs o.dst) (not (writes s o.dst)) f.to (not_from_false (writes s o.dst) f.keeps))))
+  where_zero_fine : (d a : ℕ) → Own regs s d → Below regs s a → FineOp regs s (move_where_zero d a)
+  where_zero_fine d a o h = fine regs s (move_where_zero d a) (either_way regs s (a == a)) h h o.0 o.1 refl refl
 
-  pub are_ops_fine : (os : List Vop) → FineOps regs s os → are_ops regs s os ≡ true
-  are_ops_fine [] f = refl
-  are_ops_fine (o ∷ os) f = and_from (is_op regs s o) (are_ops regs s os) (is_op_fine o f.0) (are_ops_fine os f.1)
+  where_set_fine : (d a : ℕ) → Own regs s d → Below regs s a → FineOp regs s (move_where_set d a)
+  where_set_fine d a o h = fine regs s (move_where_set d a) (either_way regs s (a == a)) h h o.0 o.1 refl refl
 
-  pub no_sections : (os : List Vop) → FineOps regs s os → are_sections None os ≡ true
-  no_sections [] f = refl
-  no_sections (o ∷ os) f =
-      (λ i. if f.0.no_acquire i then are_sections (Some []) os else (not (f.0.no_release i) && are_sections None os)) ∙ no_sections os f.1
+  negative_fine : (d x : ℕ) → Own regs s d → nat_le x 15 ≡ true → FineOp regs s (copy (dst.Reg d) (src.Small (negsuc x)))
+  negative_fine d x o h = fine regs s (copy (dst.Reg d) (src.Small (negsuc x))) (rw (eq-eqb x x refl, h) refl) refl refl o.0 o.1 refl refl
 
-  pub fine_append : (xs ys : List Vop) → FineOps regs s xs → FineOps regs s ys → FineOps regs s (xs ++ ys)
-  fine_append [] ys f g = g
-  fine_append (x ∷ xs) ys f g = (f.0, fine_append xs ys f.1 g)
+  word_fine : (d x : ℕ) → Own regs s d → FineOp regs s (copy (dst.Reg d) (src.Word x))
+  word_fine d x o = fine regs s (copy (dst.Reg d) (src.Word x)) (rw (eq-eqb x x refl) refl) refl refl o.0 o.1 refl refl
 
-  if_fine : (t : Bool) (xs ys : List Vop) → FineOps regs s xs → FineOps regs s ys → FineOps regs s (if t then xs else ys)
-  if_fine true xs ys f g = f
-  if_fine false xs ys f g = g
-
-  pub fine : (o : Vop) → is_vop o ≡ true → is_below_src regs o.a ≡ true → is_below_src regs o.b ≡ true → is_below_dst regs o.dst ≡ true → writes s o.dst ≡ false
-      → acquires o.op ≡ false → releases o.dst ≡ false → FineOp regs s o
-  fine o word left right to keeps no_acquire no_release =
-      record { word = word; left = left; right = right; to = to; keeps = keeps; no_acquire = no_acquire; no_release = no_release }
-
-  -- a test on a number that doesn't matter
-  pub either_way : (t : Bool) → ((t || true) && true) ≡ true
-  either_way true = refl
-  either_way false = refl
-
-  abbrev pub Below : ℕ → Type 0
-  Below r = nat_lt r regs ≡ true
-
-  -- it may be written
-  abbrev pub Own : ℕ → Type 0
-  Own r = (nat_lt r regs ≡ true) × ((r == s) ≡ false)
-
-  pub asks_fine : (r : ℕ) → Below r → FineOp regs s (asks r)
-  asks_fine r h = fine (asks r) (either_way (r == r)) h h refl refl refl refl
-
-  pub moves_fine : (d a : ℕ) → Own d → Below a → FineOp regs s (moves d a)
-  moves_fine d a o h = fine (moves d a) (either_way (a == a)) h h o.0 o.1 refl refl
-
-  where_zero_fine : (d a : ℕ) → Own d → Below a → FineOp regs s (move_where_zero d a)
-  where_zero_fine d a o h = fine (move_where_zero d a) (either_way (a == a)) h h o.0 o.1 refl refl
-
-  where_set_fine : (d a : ℕ) → Own d → Below a → FineOp regs s (move_where_set d a)
-  where_set_fine d a o h = fine (move_where_set d a) (either_way (a == a)) h h o.0 o.1 refl refl
-
-  small_fine : (d x : ℕ) → Own d → nat_le x 15 ≡ true → FineOp regs s (copy (dst.Reg d) (small x))
-  small_fine d x o h = fine (copy (dst.Reg d) (small x)) (rw (eq-eqb x x refl, h) refl) refl refl o.0 o.1 refl refl
-
-  pub zero_fine : (d : ℕ) → Own d → FineOp regs s (copy (dst.Reg d) (small 0))
-  zero_fine d o = small_fine d 0 o refl
-
-  negative_fine : (d x : ℕ) → Own d → nat_le x 15 ≡ true → FineOp regs s (copy (dst.Reg d) (src.Small (negsuc x)))
-  negative_fine d x o h = fine (copy (dst.Reg d) (src.Small (negsuc x))) (rw (eq-eqb x x refl, h) refl) refl refl o.0 o.1 refl refl
-
-  word_fine : (d x : ℕ) → Own d → FineOp regs s (copy (dst.Reg d) (src.Word x))
-  word_fine d x o = fine (copy (dst.Reg d) (src.Word x)) (rw (eq-eqb x x refl) refl) refl refl o.0 o.1 refl refl
-
-  constant_fine : (d x : ℕ) → Own d → x < 2 ^ 32 → FineOp regs s (copy (dst.Reg d) (constant x))
+  constant_fine : (d x : ℕ) → Own regs s d → x < 2 ^ 32 → FineOp regs s (copy (dst.Reg d) (constant x))
   constant_fine d x o h =
       cond_both (nat_lt x 16) (small x) (if nat_le (2 ^ 32 - 16) x then src.Small (negsuc (2 ^ 32 - 1 - x)) else src.Word x) (λ a. FineOp regs s (copy (dst.Reg d) a))
-      (λ e. let p = ltb-true x 16 e in small_fine d x o (le-leb x 15 (omega (arith, p))))
+      (λ e. let p = ltb-true x 16 e in small_fine regs s d x o (le-leb x 15 (omega (arith, p))))
       (λ _. cond_both (nat_le (2 ^ 32 - 16) x) (src.Small (negsuc (2 ^ 32 - 1 - x))) (src.Word x) (λ a. FineOp regs s (copy (dst.Reg d) a))
       (λ e. let p = leb-true (2 ^ 32 - 16) x e in negative_fine d (2 ^ 32 - 1 - x) o (le-leb (2 ^ 32 - 1 - x) 15 (omega (arith, p))))
       (λ _. word_fine d x o))
 
-  two_fine : (v : ℕ) (o : BinOp) (a b : ℕ) → Own v → Below a → Below b → FineOps regs s (two_ops v (unit_op o) a b)
-  two_fine v bin.Add a b o h g = (fine _ (either_way (a == b)) h g o.0 o.1 refl refl, tt)
-  two_fine v bin.Sub a b o h g = (fine _ (either_way (a == b)) h g o.0 o.1 refl refl, tt)
-  two_fine v bin.Mul a b o h g = (fine _ (either_way (a == b)) h g o.0 o.1 refl refl, tt)
-  two_fine v (bin.MulHi true) a b o h g = (fine _ (either_way (a == b)) h g o.0 o.1 refl refl, tt)
-  two_fine v (bin.MulHi false) a b o h g = (fine _ (either_way (a == b)) h g o.0 o.1 refl refl, tt)
-  two_fine v bin.And a b o h g = (fine _ (either_way (a == b)) h g o.0 o.1 refl refl, tt)
-  two_fine v bin.Or a b o h g = (fine _ (either_way (a == b)) h g o.0 o.1 refl refl, tt)
-  two_fine v bin.Xor a b o h g = (fine _ (either_way (a == b)) h g o.0 o.1 refl refl, tt)
-  two_fine v bin.Shl a b o h g = (fine _ (either_way (a == b)) h g o.0 o.1 refl refl, tt)
-  two_fine v bin.Shr a b o h g = (fine _ (either_way (a == b)) h g o.0 o.1 refl refl, tt)
-  two_fine v bin.Sar a b o h g = (fine _ (either_way (a == b)) h g o.0 o.1 refl refl, tt)
-  two_fine v (bin.Min true) a b o h g = (fine _ (either_way (a == b)) h g o.0 o.1 refl refl, tt)
-  two_fine v (bin.Max true) a b o h g = (fine _ (either_way (a == b)) h g o.0 o.1 refl refl, tt)
-  two_fine v bin.Mul24 a b o h g = (fine _ (either_way (a == b)) h g o.0 o.1 refl refl, tt)
+  two_fine : (v : ℕ) (o : BinOp) (a b : ℕ) → Own regs s v → Below regs s a → Below regs s b → FineOps regs s (two_ops v (unit_op o) a b)
+  two_fine v bin.Add a b o h g = (fine regs s _ (either_way regs s (a == b)) h g o.0 o.1 refl refl, tt)
+  two_fine v bin.Sub a b o h g = (fine regs s _ (either_way regs s (a == b)) h g o.0 o.1 refl refl, tt)
+  two_fine v bin.Mul a b o h g = (fine regs s _ (either_way regs s (a == b)) h g o.0 o.1 refl refl, tt)
+  two_fine v (bin.MulHi true) a b o h g = (fine regs s _ (either_way regs s (a == b)) h g o.0 o.1 refl refl, tt)
+  two_fine v (bin.MulHi false) a b o h g = (fine regs s _ (either_way regs s (a == b)) h g o.0 o.1 refl refl, tt)
+  two_fine v bin.And a b o h g = (fine regs s _ (either_way regs s (a == b)) h g o.0 o.1 refl refl, tt)
+  two_fine v bin.Or a b o h g = (fine regs s _ (either_way regs s (a == b)) h g o.0 o.1 refl refl, tt)
+  two_fine v bin.Xor a b o h g = (fine regs s _ (either_way regs s (a == b)) h g o.0 o.1 refl refl, tt)
+  two_fine v bin.Shl a b o h g = (fine regs s _ (either_way regs s (a == b)) h g o.0 o.1 refl refl, tt)
+  two_fine v bin.Shr a b o h g = (fine regs s _ (either_way regs s (a == b)) h g o.0 o.1 refl refl, tt)
+  two_fine v bin.Sar a b o h g = (fine regs s _ (either_way regs s (a == b)) h g o.0 o.1 refl refl, tt)
+  two_fine v (bin.Min true) a b o h g = (fine regs s _ (either_way regs s (a == b)) h g o.0 o.1 refl refl, tt)
+  two_fine v (bin.Max true) a b o h g = (fine regs s _ (either_way regs s (a == b)) h g o.0 o.1 refl refl, tt)
+  two_fine v bin.Mul24 a b o h g = (fine regs s _ (either_way regs s (a == b)) h g o.0 o.1 refl refl, tt)
   two_fine v (bin.Min false) a b o h g = tt
   two_fine v (bin.Max false) a b o h g = tt
   two_fine v (bin.Div t) a b o h g = tt
@@ -133,37 +64,37 @@ module _ (regs s : ℕ) where
   two_fine v (bin.Less t) a b o h g = tt
   two_fine v bin.Equal a b o h g = tt
 
-  one_fine : (v : ℕ) (x : UnOp) (a : ℕ) → Own v → Below a → FineOps regs s (one_ops v x a)
-  one_fine v one.Not a o h = (fine _ (either_way (a == a)) h h o.0 o.1 refl refl, tt)
-  one_fine v one.Neg a o h = (fine _ refl refl h o.0 o.1 refl refl, tt)
-  one_fine v one.Clz a o h = (fine _ (either_way (a == a)) h h o.0 o.1 refl refl, tt)
+  one_fine : (v : ℕ) (x : UnOp) (a : ℕ) → Own regs s v → Below regs s a → FineOps regs s (one_ops v x a)
+  one_fine v one.Not a o h = (fine regs s _ (either_way regs s (a == a)) h h o.0 o.1 refl refl, tt)
+  one_fine v one.Neg a o h = (fine regs s _ refl refl h o.0 o.1 refl refl, tt)
+  one_fine v one.Clz a o h = (fine regs s _ (either_way regs s (a == a)) h h o.0 o.1 refl refl, tt)
   one_fine v one.Popcount a o h = tt
   one_fine v (one.Narrow t) a o h = tt
 
-  choose_fine : (v c a b : ℕ) → Own v → Below c → Below a → Below b → FineOps regs s (choose_ops v c a b)
+  choose_fine : (v c a b : ℕ) → Own regs s v → Below regs s c → Below regs s a → Below regs s b → FineOps regs s (choose_ops v c a b)
   choose_fine v c a b o hc ha hb =
-      if_fine (b == v) (asks c ∷ move_where_set v a ∷ []) (if a == v then asks c ∷ move_where_zero v b ∷ [] else asks c ∷ moves v b ∷ move_where_set v a ∷ [])
-      (asks_fine c hc, (where_set_fine v a o ha, tt))
-      (if_fine (a == v) (asks c ∷ move_where_zero v b ∷ []) (asks c ∷ moves v b ∷ move_where_set v a ∷ [])
-      (asks_fine c hc, (where_zero_fine v b o hb, tt))
-      (asks_fine c hc, (moves_fine v b o hb, (where_set_fine v a o ha, tt))))
+      if_fine regs s (b == v) (asks c ∷ move_where_set v a ∷ []) (if a == v then asks c ∷ move_where_zero v b ∷ [] else asks c ∷ moves v b ∷ move_where_set v a ∷ [])
+      (asks_fine regs s c hc, (where_set_fine v a o ha, tt))
+      (if_fine regs s (a == v) (asks c ∷ move_where_zero v b ∷ []) (asks c ∷ moves v b ∷ move_where_set v a ∷ [])
+      (asks_fine regs s c hc, (where_zero_fine v b o hb, tt))
+      (asks_fine regs s c hc, (moves_fine regs s v b o hb, (where_set_fine v a o ha, tt))))
 
-  size_fine : (t first v d : ℕ) → Own t → Below first → Below (first + 1) → Below (first + 2) → Own v → Below d → FineOps regs s (size_ops t first v d)
+  size_fine : (t first v d : ℕ) → Own regs s t → Below regs s first → Below regs s (first + 1) → Below regs s (first + 2) → Own regs s v → Below regs s d → FineOps regs s (size_ops t first v d)
   size_fine t first v d ot h0 h1 h2 ov hd = (
-    small_fine t 1 ot refl,
+    small_fine regs s t 1 ot refl,
     (
-      asks_fine d hd,
+      asks_fine regs s d hd,
       (
         where_zero_fine t first ot h0,
         (
-          fine (compares d 1) refl hd refl refl refl refl refl,
+          fine regs s (compares d 1) refl hd refl refl refl refl refl,
           (
             where_zero_fine t (first + 1) ot h1,
             (
-              fine (compares d 2) refl hd refl refl refl refl refl,
+              fine regs s (compares d 2) refl hd refl refl refl refl refl,
               (
                 where_zero_fine t (first + 2) ot h2,
-                (moves_fine v t ov ot.0, tt),
+                (moves_fine regs s v t ov ot.0, tt),
               ),
             ),
           ),

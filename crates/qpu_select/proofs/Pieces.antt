@@ -12,8 +12,9 @@ use Rattle.vop_ir.specs.Valid.{are_ops, are_sections}
 use Rattle.vpm_dma_lower.specs.Code.{shifted, shifted_exit}
 use Rattle.vpm_dma_lower.specs.Accesses.{Code}
 use Rattle.qpu_select.specs.Code.{Start, Piece, after, opened, body_at, blocks_of, enters, loop_blocks, around, then_row, nothing, adds}
-use Rattle.qpu_select.proofs.Parts.{leads_within, is_part, are_parts, are_codes}
-use Rattle.qpu_select.proofs.Operations.{FineOps, are_ops_fine, no_sections, fine_append}
+use Rattle.vpm_dma_lower.specs.Valid.{leads_within, is_part, are_parts}
+use Rattle.vpm_dma_lower.proofs.CodesFine.{are_codes}
+use Rattle.vpm_dma_lower.proofs.Fine.{FineOps, are_ops_fine, no_sections, fine_append}
 
 -- to blocks from 1 to this one
 abbrev pub Leads : ℕ → Exit → Type 0

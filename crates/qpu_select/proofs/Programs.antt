@@ -11,15 +11,15 @@ use Rattle.vop_ir.specs.declared.form.Exit.{Exit}
 use Rattle.vop_ir.specs.declared.form.Exit.TheVariants.{Jump, Branch, Stop}
 use Rattle.vop_ir.specs.declared.form.Vop.{Vop}
 use Rattle.vop_ir.specs.declared.form.VopBlock.{VopBlock}
-use Rattle.vop_ir.specs.declared.form.VopIr.{VopIr}
 use Rattle.vop_ir.specs.Runs.{Block, vops, block_from}
 use Rattle.vop_ir.specs.Valid.{is_target, is_exit, are_ops, are_sections, is_block, are_blocks, is_first, is_program, is_valid, sets_scratch}
 use Rattle.vpm_dma_lower.specs.Accesses.{Code}
 use Rattle.qpu_select.specs.Code.{Shape, Start, Piece, all_regs, batch_reg, step_reg, batches_reg, items_reg, dims_reg, global_reg, local_reg, opened, after, body_at, loop_blocks, nothing, adds}
 use Rattle.qpu_select.specs.Clears.{emit_body}
 use Rattle.qpu_select.specs.Whole.{takes, uniform_regs, more_batches, next_batch, opening, batch, program}
-use Rattle.qpu_select.proofs.Parts.{are_codes}
-use Rattle.qpu_select.proofs.Operations.{FineOp, FineOps, fine, either_way, are_ops_fine, no_sections, high_own}
+use Rattle.vpm_dma_lower.proofs.CodesFine.{are_codes}
+use Rattle.vpm_dma_lower.proofs.Fine.{FineOp, FineOps, fine, either_way, are_ops_fine, no_sections}
+use Rattle.qpu_select.proofs.Operations.{high_own}
 use Rattle.qpu_select.proofs.Pieces.{Leads, FineBlocks, FinePiece, loop_rest, own_block, blocks_more, blocks_append, nothing_fine, adds_fine, then_fine, loop_fine}
 use Rattle.qpu_select.proofs.Statements.{body_fine}
 
@@ -178,8 +178,6 @@ module _ (h : Shape) where
         let n : length bs ≡ length (program h cs body) = sym (length-map bs block_from) ∙ ap length e in
         same_program (all_regs h) h.vals (length bs) bs ∙ (λ i. good_program (all_regs h) h.vals (n i) (e i)) ∙ program_good
 
-pub is_valid_from : (p : VopIr) (regs s : ℕ) → p.regs ≡ regs → p.scratch ≡ s → s < regs → is_program regs s (length p.blocks.items) p.blocks.items ≡ true → is_valid p ≡ true
+pub is_valid_from : (regs s : ℕ) (blocks : List VopBlock) → s < regs → is_program regs s (length blocks) blocks ≡ true → is_valid regs s blocks ≡ true
 unfolding is_valid
-is_valid_from p regs s r e h f =
-    (λ i. nat_lt (e i) (r i) && is_program (r i) (e i) (length p.blocks.items) p.blocks.items)
-    ∙ and_from (nat_lt s regs) (is_program regs s (length p.blocks.items) p.blocks.items) (lt-ltb s regs h) f
+is_valid_from regs s blocks h f = and_from (nat_lt s regs) (is_program regs s (length blocks) blocks) (lt-ltb s regs h) f

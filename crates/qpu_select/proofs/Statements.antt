@@ -10,8 +10,9 @@ use Rattle.vop_ir.specs.Valid.{holds}
 use Rattle.vpm_dma_lower.specs.Accesses.{Code}
 use Rattle.qpu_select.specs.Code.{Shape, Start, Piece, after, opened, body_at, all_regs, then_row, adds, asks, let_ops, put_ops, emit, emit_row}
 use Rattle.qpu_select.specs.Clears.{Naming, clear, wholly, reads, namings, namings_row, cleared, seen_after, emit_body}
-use Rattle.qpu_select.proofs.Parts.{are_codes}
-use Rattle.qpu_select.proofs.Operations.{FineOps, Own, asks_fine, zero_fine, val_own, var_own, let_fine, put_fine}
+use Rattle.vpm_dma_lower.proofs.CodesFine.{are_codes}
+use Rattle.vpm_dma_lower.proofs.Fine.{FineOps, Own, asks_fine, zero_fine}
+use Rattle.qpu_select.proofs.Operations.{val_own, var_own, let_fine, put_fine}
 use Rattle.qpu_select.proofs.Pieces.{FinePiece, nothing_fine, adds_fine, then_fine, enters_fine, around_fine}
 
 module _ (h : Shape) (cs : List Code) (arrays : ℕ) (codes : are_codes (all_regs h) h.vals cs ≡ true) where

@@ -130,7 +130,7 @@ fn put_one(ops: &mut Vec<Vop>, v: u32, op: UnOp, a: u32) -> Result<(), Memory>
     }
 }
 
-/// The second of two values where a third isn't 0, and the first elsewhere.
+/// Value `a` where value `c` isn't 0, and `b` elsewhere.
 fn put_choice(ops: &mut Vec<Vop>, v: u32, c: u32, a: u32, b: u32) -> Result<(), Memory>
     ensures { IfOk result (λ _. ops.new.items ≡ ops.old.items ++ choose_ops v c a b) }
 {

@@ -1,8 +1,6 @@
 //! The whole: the opening, and the loop over batches.
 
 ghost use Rattle.std.specs.Prelude.{◌≡◌, ◌+◌, ◌++◌, true, IfOk, map, sum as sum_of};
-ghost use Rattle.lane_ir.specs.Batch.{is_valid as is_valid_batch};
-ghost use Rattle.vop_ir.specs.Valid.{is_valid};
 ghost use Rattle.vop_ir.specs.Runs.{block_from};
 ghost use Rattle.vpm_dma_lower.specs.Accesses.{code_from, codes_all};
 ghost use Rattle.qpu_select.specs.Code.{HasRoom, all_regs, shape_of};
@@ -134,19 +132,18 @@ fn put_program(
     Ok(closed)
 }
 
-/// The program of a batch's statements, done for each batch of a QPU, where `accesses` has the code of their accesses.
+/// The program of a batch's statements, done for each batch of a QPU, where `accesses` has the code of that batch's accesses.
+/// A definition for which the processor has no operation, as a quotient, gets none here: `lower` leaves no such definition.
 ///
 /// # Errors
 ///
 /// Where memory or the numbers of registers or blocks run out.
 pub fn select(alloc: Global, ir: &LaneIr, accesses: &AccessList) -> Result<VopIr, Memory>
+    requires { map code_from accesses.now.list.items ≡ codes_all ir.now.vals ir.now.arrays.items ir.now.body.items }
     ensures regs { IfOk result (λ r. r.regs ≡ all_regs (shape_of ir.now)) }
     ensures rows { IfOk result (λ r. r.rows ≡ sum_of ir.now.arrays.items) }
     ensures scratch { IfOk result (λ r. r.scratch ≡ ir.now.vals) }
     ensures blocks { IfOk result (λ r. map block_from r.blocks.items ≡ program (shape_of ir.now) (map code_from accesses.now.list.items) ir.now.body.items) }
-    // Of a valid batch it names only what is there, where the code is that of the batch's accesses.
-    ensures valid { is_valid_batch ir.now ≡ true → map code_from accesses.now.list.items ≡ codes_all ir.now.vals ir.now.arrays.items ir.now.body.items
-        → IfOk result (λ r. is_valid r ≡ true) }
 {
     let h = shape(ir)?;
     let rows = rows(&ir.arrays)?;

@@ -3,15 +3,11 @@ use Rattle.std.specs.Prelude.{◌≡◌, ℕ, List}
 use Rattle.vop_ir.specs.declared.form.Exit.{Exit}
 use Rattle.vop_ir.specs.declared.form.VopBlock.{VopBlock}
 use Rattle.vop_ir.specs.Runs.{Block, vops}
-use Rattle.phys_ir.specs.declared.form.PhysBlock.{PhysBlock}
-use Rattle.phys_ir.specs.declared.form.PhysIr.{PhysIr}
+use Rattle.phys_ir.specs.declared.whole.PhysIr.{PhysIr}
 use Rattle.regfile_alloc.specs.Picks.{KeepsRun}
 
 abbrev pub exit_from : VopBlock → Exit
 exit_from b = b.exit
-
-abbrev pub exit_over : PhysBlock → Exit
-exit_over b = b.exit
 
 -- no row is added, and others see of the run what they see of the source's
 pub record IsInFile (rows : ℕ) (source : List (Block vops)) (p : PhysIr) : Type 0 where

@@ -1,7 +1,8 @@
 //! Blocks over the places of a proposal, with what rows hold brought in before it is named and put away after it is written.
 
 ghost use Rattle.std.specs.Prelude.{◌≡◌, ◌<◌, map, IfOk};
-ghost use Rattle.regfile_alloc.specs.Outcome.{exit_from, exit_over};
+ghost use Rattle.phys_ir.specs.Leads.{exit_of};
+ghost use Rattle.regfile_alloc.specs.Outcome.{exit_from};
 
 use crate::emit::item;
 use crate::facts::{also, are_among, forget, is_at_home, is_tellable};
@@ -237,7 +238,7 @@ pub fn blocks_by(
     ground: Ground,
     blocks: &[VopBlock],
 ) -> Result<Vec<PhysBlock>, AllocError>
-    ensures { IfOk result (λ v. map exit_over v.items ≡ map exit_from blocks.now) }
+    ensures { IfOk result (λ v. map exit_of v.items ≡ map exit_from blocks.now) }
 {
     known.begin(ground.plan)?;
     let mut out = Vec::new(alloc);

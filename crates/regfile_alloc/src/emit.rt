@@ -4,8 +4,9 @@ ghost use Rattle.std.specs.Prelude.{◌≡◌, ℕ, ◌<◌, ◌≤◌, length, 
 ghost use Rattle.vop_ir.specs.Runs.{block_from};
 ghost use Rattle.phys_ir.specs.Places.{vop_of, block_of};
 ghost use Rattle.regfile_alloc.specs.Code.{code_of, copied, read_from};
-ghost use Rattle.regfile_alloc.specs.Picks.{if_needed, loc_of, item_code, items_in, block_in, IsSrcPlace, AllBelow, KeepsRun};
-ghost use Rattle.regfile_alloc.specs.Outcome.{exit_from, exit_over};
+ghost use Rattle.regfile_alloc.specs.Picks.{if_needed, loc_of, item_code, items_in, block_in, IsSrcPlace, KeepsRun};
+ghost use Rattle.phys_ir.specs.Leads.{exit_of};
+ghost use Rattle.regfile_alloc.specs.Outcome.{exit_from};
 
 use crate::picks::{
     FIRST_COPY, SECOND_COPY, copy_place, copy_to, dst_in, is_private, is_same, needs_copy,
@@ -102,7 +103,7 @@ fn blocks_over(
 ) -> Result<Vec<PhysBlock>, AllocError>
     requires spare { spare < 68 }
     ensures code { IfOk result (λ v. map block_of v.items ≡ map (block_in (loc_of places.now) spare) (map block_from blocks.now)) }
-    ensures exits { IfOk result (λ v. map exit_over v.items ≡ map exit_from blocks.now) }
+    ensures exits { IfOk result (λ v. map exit_of v.items ≡ map exit_from blocks.now) }
 {
     let mut out: Vec<PhysBlock> = Vec::new(alloc);
     for block in blocks {
@@ -124,10 +125,9 @@ fn first_places(alloc: Global, count: u32) -> Result<Vec<u32>, AllocError>
 
 /// Register r is register r of file A: nothing goes to a row of the scratch.
 pub fn in_file(alloc: Global, ir: &VopIr) -> Result<PhysIr, AllocError>
-    requires few { ir.now.regs ≤ 32 }
-    requires known { AllBelow ir.now.regs (map block_from ir.now.blocks.items) }
+    requires { ir.now.regs ≤ 32 }
     ensures rows { IfOk result (λ p. p.rows ≡ ir.now.rows) }
-    ensures exits { IfOk result (λ p. map exit_over p.blocks.items ≡ map exit_from ir.now.blocks.items) }
+    ensures exits { IfOk result (λ p. map exit_of p.blocks.items ≡ map exit_from ir.now.blocks.items) }
     ensures same { IfOk result (λ p. KeepsRun (map block_from ir.now.blocks.items) p.blocks.items) }
 {
     let places = first_places(alloc, ir.regs)?;

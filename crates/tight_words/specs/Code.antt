@@ -23,7 +23,7 @@ abbrev pub has : (Form → Bool) → Option Form → Bool
 has test None = false
 has test (Some f) = test f
 
--- one of the three words after a branch or of the two after a program end
+-- a delay slot: a branch has three of them, a program end two
 unfoldable pub is_slot : List ℕ → ℕ → Bool
 is_slot code i =
     ((has is_branch (back code i 1) || has is_branch (back code i 2)) || has is_branch (back code i 3))
@@ -44,7 +44,7 @@ leads None b t = false
 unfoldable pub branches_to : List ℕ → ℕ → ℕ → Bool
 branches_to code b t = leads (form_at code b) b t
 
--- Before(i): word i - 1, and the third slot of each branch to i
+-- the words after which word i may run: the one above it, and the last slot of a branch that leads to it
 abbrev pub IsBefore : List ℕ → ℕ → ℕ → Type 0
 IsBefore code i p = (p + 1 ≡ i) ⊎ ((b : ℕ) × (p ≡ b + 3) × (branches_to code b i ≡ true))
 

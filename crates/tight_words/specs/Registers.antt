@@ -108,7 +108,7 @@ is_end (Alu head unpack add mul flags swap ra rb) = is_end_head head
 is_end (Ldi add_cond mul_cond swap add_dst mul_dst value) = false
 is_end (Bra c words) = false
 
--- an ALU word that isn't a program end
+-- a word of the two units after which the program goes on
 abbrev pub goes_on : Form → Bool
 goes_on (Alu head unpack add mul flags swap ra rb) = not (is_end_head head)
 goes_on (Ldi add_cond mul_cond swap add_dst mul_dst value) = false

@@ -20,7 +20,7 @@ pub record IsJoint (x y j : Form) : Type 0 where
   pub apart : apart (meaning x) (meaning y) ≡ true
   pub means : meaning j ≡ both (meaning x) (meaning y)
 
--- a word breaks none of H1 to H3 after any word of Before(i)
+-- whatever word runs just before it, this one keeps H1 to H3
 abbrev pub IsClear : List ℕ → ℕ → Option Form → Type 0
 IsClear code i f = (p : ℕ) → IsBefore code i p → clash (form_at code p) f ≡ false
 

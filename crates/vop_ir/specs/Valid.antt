@@ -11,7 +11,6 @@ use Rattle.vop_ir.specs.declared.form.Exit.{Exit}
 use Rattle.vop_ir.specs.declared.form.Exit.TheVariants.{Jump, Branch, Stop}
 use Rattle.vop_ir.specs.declared.form.Vop.{Vop}
 use Rattle.vop_ir.specs.declared.form.VopBlock.{VopBlock}
-use Rattle.vop_ir.specs.declared.form.VopIr.{VopIr}
 use Rattle.vop_ir.specs.OneWord.{is_vop, is_or, is_always, is_turn}
 use Rattle.vop_ir.specs.Runs.{acquires, releases}
 
@@ -104,6 +103,6 @@ abbrev pub is_program : ℕ → ℕ → ℕ → List VopBlock → Bool
 is_program regs s n [] = false
 is_program regs s n (b ∷ bs) = is_first regs s n b.ops.items b.exit && are_blocks regs s n bs
 
--- the program names only what is there
-unfoldable pub is_valid : VopIr → Bool
-is_valid p = nat_lt p.scratch p.regs && is_program p.regs p.scratch (length p.blocks.items) p.blocks.items
+-- a program with so many registers and that of the scratch names only what is there
+unfoldable pub is_valid : (regs scratch : ℕ) → List VopBlock → Bool
+is_valid regs scratch blocks = nat_lt scratch regs && is_program regs scratch (length blocks) blocks

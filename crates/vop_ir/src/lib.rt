@@ -2,7 +2,9 @@
 #![tactic(auto)]
 
 mod form;
+mod ir;
 mod operations;
 
-pub use form::{Dst, Exit, Op, Src, Turn, Vop, VopBlock, VopIr};
+pub use form::{Dst, Exit, Op, Src, Turn, Vop, VopBlock};
+pub use ir::VopIr;
 pub use operations::{copy, flagged, plain, where_set, where_zero};

@@ -241,15 +241,16 @@ get_blocks e vals first d index mask = load_core e (e + 7) Int (own vals) (finds
 abbrev pub put_blocks : ℕ → ℕ → ℕ → ℕ → ℕ → ℕ → List (Block vops)
 put_blocks e vals first index value mask = store_core e (e + 7) Int (own vals) (finds_element vals first index value mask)
 
--- zero is stored row by row; register vals + 7 counts the rows. An array has at least one element
-abbrev pub clear_first : ℕ → ℕ → ℕ → List Vop
-clear_first vals first mask =
+-- zero is stored row by row; register vals + 7 counts the rows. Z is set in all lanes where none is left
+abbrev pub clear_first : ℕ → ℕ → ℕ → ℕ → List Vop
+clear_first vals first len mask =
     plain (op.Add add_op.Shl) (dst.Reg (vals + 1)) src.Elem (small 2)
     ∷ plain (op.Add add_op.Add) (dst.Reg (vals + 1)) (src.Reg (vals + 1)) (src.Reg vals)
     ∷ plain (op.Add add_op.Add) (dst.Reg (vals + 1)) (src.Reg (vals + 1)) (src.Word (64 * first))
     ∷ copy (dst.Reg (vals + 2)) (small 0)
     ∷ copy (dst.Reg (vals + 3)) (src.Reg mask)
     ∷ copy (dst.Reg (vals + 7)) (small 0)
+    ∷ flagged (op.Add add_op.Sub) dst.Nowhere (src.Reg (vals + 7)) (src.Word len)
     ∷ []
 
 abbrev pub clear_next : ℕ → ℕ → List Vop
@@ -261,7 +262,7 @@ clear_next vals len =
 
 abbrev pub clear_blocks : ℕ → ℕ → ℕ → ℕ → ℕ → List (Block vops)
 clear_blocks e vals first len mask =
-    record { ops = clear_first vals first mask; exit = Jump (e + 1) }
+    record { ops = clear_first vals first len mask; exit = Branch AnyNz (e + 1) (e + 9) }
     ∷ store_core (e + 1) (e + 8) Int (own vals) []
     ++ record { ops = clear_next vals len; exit = Branch AnyNz (e + 1) (e + 9) } ∷ []
 

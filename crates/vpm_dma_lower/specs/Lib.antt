@@ -1,3 +1,4 @@
 pub mod Elements
 pub mod Code
 pub mod Accesses
+pub mod Valid

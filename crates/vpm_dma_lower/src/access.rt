@@ -1,16 +1,11 @@
-//! The code of accesses, as `select` takes it.
+//! The code of one access.
 
 use vop_ir::VopBlock;
 
-/// The code of one access, over `regs` registers. It is entered at its first block, and an exit to the number of its blocks leaves it.
+/// How one access is done, over `regs` registers: it begins with its first block, and is over where an exit names the number that follows
+/// its last block.
 #[derive(Drop)]
 pub struct Access {
     pub regs: u32,
     pub blocks: Vec<VopBlock>,
-}
-
-/// The code of each access of a batch, in the order of the text.
-#[derive(Drop)]
-pub struct AccessList {
-    pub list: Vec<Access>,
 }

@@ -281,13 +281,13 @@ pub fn put_blocks(
     )
 }
 
-/// The operations before the first row is cleared.
-fn clear_first(vals: u32, row: u32, mask: u32) -> [Vop; 6]
+/// The operations before the first row is cleared, and Z in all lanes where there is none.
+fn clear_first(vals: u32, row: u32, len: u32, mask: u32) -> [Vop; 7]
     requires room { vals + 7 < 2 ^ 32 }
     requires row { 64 * row < 2 ^ 32 }
-    ensures { result ≡ code.clear_first vals row mask }
+    ensures { result ≡ code.clear_first vals row len mask }
 {
-    let addr = vals + 1;
+    let (addr, count) = (vals + 1, vals + 7);
     [
         plain(
             Op::Add(AddOp::Shl),
@@ -309,7 +309,13 @@ fn clear_first(vals: u32, row: u32, mask: u32) -> [Vop; 6]
         ),
         copy(Dst::Reg(vals + 2), Src::Small(0)),
         copy(Dst::Reg(vals + 3), Src::Reg(mask)),
-        copy(Dst::Reg(vals + 7), Src::Small(0)),
+        copy(Dst::Reg(count), Src::Small(0)),
+        flagged(
+            Op::Add(AddOp::Sub),
+            Dst::Nowhere,
+            Src::Reg(count),
+            Src::Word(len),
+        ),
     ]
 }
 
@@ -354,6 +360,11 @@ pub fn clear_blocks(
     ensures { IfOk result (λ v. map block_from v.items ≡ code.clear_blocks 0 vals row len mask) }
 {
     let r = own(vals);
+    let while_left = Exit::Branch {
+        cond: BraCond::AnyNz,
+        yes: 1,
+        no: 9,
+    };
     let mut blocks = core(
         alloc,
         1,
@@ -366,17 +377,8 @@ pub fn clear_blocks(
     )?;
     blocks.insert(
         0,
-        block(alloc, &clear_first(vals, row, mask), &[], Exit::Jump(1))?,
+        block(alloc, &clear_first(vals, row, len, mask), &[], while_left)?,
     )?;
-    blocks.push(block(
-        alloc,
-        &clear_next(vals, len),
-        &[],
-        Exit::Branch {
-            cond: BraCond::AnyNz,
-            yes: 1,
-            no: 9,
-        },
-    )?)?;
+    blocks.push(block(alloc, &clear_next(vals, len), &[], while_left)?)?;
     Ok(blocks)
 }

@@ -4,10 +4,12 @@
 mod access;
 mod blocks;
 mod elements;
+mod list;
 mod names;
 mod operations;
 mod parts;
 mod walk;
 
-pub use access::{Access, AccessList};
+pub use access::Access;
+pub use list::AccessList;
 pub use walk::{Memory, accesses};

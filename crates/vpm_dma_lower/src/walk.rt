@@ -4,8 +4,9 @@ ghost use Rattle.std.specs.Prelude.{◌≡◌, ◌+◌, ◌*◌, ◌<◌, ◌^�
 ghost use Rattle.vop_ir.specs.Runs.{block_from};
 ghost use Rattle.vpm_dma_lower.specs.Accesses.{code_from, code_over, first_row as first_row_of, codes, codes_all};
 
-use crate::access::{Access, AccessList};
+use crate::access::Access;
 use crate::blocks::{clear_blocks, get_blocks, load_blocks, put_blocks, store_blocks};
+use crate::list::AccessList;
 use lane_ir::{LaneIr, LaneStmt};
 use std::alloc::{AllocError, Global};
 use vop_ir::VopBlock;

@@ -31,19 +31,22 @@ returns-clause-undivided c h =
     let body : c.in_ok-body.body.items ≡ rewritten_all (lowered vals) c.args.ir.now.body.items = c.in_ok-body.ensures ∙ ap (rewritten_all (lowered vals)) c.deref.ensures.value in
     ap (each_def_all is_free) body ∙ still_free vals c.args.ir.now.body.items h
 
-pub returns-clause-valid : goal.returns-clause-valid
-returns-clause-valid c h =
+pub invariant_of-result : goal.invariant_of-result
+invariant_of-result c =
     let vals = c.args.ir.now.vals in
     let arrays : c.in_ok-arrays.arrays.items ≡ c.args.ir.now.arrays.items = each_same _ _ c.in_ok-arrays.ensures.cases.0 in
     let kinds : c.in_ok-kinds.kinds.items ≡ c.args.ir.now.kinds.items = each_same _ _ c.in_ok-kinds.ensures.cases.0 in
     let body : c.in_ok-body.body.items ≡ rewritten_all (lowered vals) c.args.ir.now.body.items = c.in_ok-body.ensures ∙ ap (rewritten_all (lowered vals)) c.deref.ensures.value in
-    (λ i. is_body (counted (c.in_ok-vals.ensures.0 i) c.args.ir.now.vars (length (arrays i)) (length (kinds i))) (body i))
-    ∙ lowered_valid (counts_of c.args.ir.now) c.args.ir.now.body.items h
+    record {
+      valid =
+          (λ i. is_body (counted (c.in_ok-vals.ensures.0 i) c.args.ir.now.vars (length (arrays i)) (length (kinds i))) (body i))
+          ∙ lowered_valid (counts_of c.args.ir.now) c.args.ir.now.body.items c.args.ir.now.valid;
+    }
 
 pub returns-clause-same : goal.returns-clause-same
-returns-clause-same c h w n i j s t o le at m =
+returns-clause-same c w n i j s t o le at m =
     let vals = c.args.ir.now.vals in
     let counts = counts_of c.args.ir.now in
     let body : c.in_ok-body.body.items ≡ rewritten_all (lowered vals) c.args.ir.now.body.items = c.in_ok-body.ensures ∙ ap (rewritten_all (lowered vals)) c.deref.ensures.value in
     subst (λ b. EndsAs vals (run_all w n i c.args.ir.now.body.items s) (run_all w n j b t)) (sym body)
-    ((bodies (lowered counts.vals) counts w n 0 o (λ u g. defs_kept counts w n u o)) i j c.args.ir.now.body.items s t le at h m)
+    ((bodies (lowered counts.vals) counts w n 0 o (λ u g. defs_kept counts w n u o)) i j c.args.ir.now.body.items s t le at c.args.ir.now.valid m)

@@ -1,4 +1,4 @@
-use Rattle.std.proofs.Common.{List, ◌∙◌, sym, ap}
+use Rattle.std.proofs.Common.{List, ◌∙◌, ap}
 use Rattle.std.specs.Prelude.{map}
 use Rattle.clc_types.specs.declared.typed.Var.{Var}
 use Rattle.ir_build.specs.Build.{array_length, kinds_of}
@@ -11,7 +11,7 @@ invariant_of-result c =
     record {
       valid =
           whole_valid body.vars.items body.params c.in_ok-numbers.numbers body.body c.statement.new.out.items c.in_ok-array_lengths.field-0.items c.in_ok-first_kinds.field-0.items
-          (sym c.is_sound.ensures ∙ c.if-not-is_sound.false)
+          body.valid
           (whole_grows body.vars.items _ body.params _ _ _ _ body.body _ _ _ c.as_slice-vars.ensures.value c.in_ok-result.ensures c.in_ok-after.ensures c.new-stmts.ensures.items
           c.in_ok-first.ensures.code c.in_ok-first.ensures.next c.in_ok-numbers.ensures)
           (c.in_ok-array_lengths.ensures ∙ ap (map array_length) c.as_slice-vars.ensures.value)

@@ -6,8 +6,8 @@ use Rattle.mask_flow.specs.Heights.{height_all, vals_after, vars_after}
 use Rattle.mask_flow.proofs.Names.{batch_named}
 use Rattle.mask_flow.proofs.pass.mask.Goals as goal
 
-pub returns-clause-valid : goal.returns-clause-valid
-returns-clause-valid c le =
+pub invariant_of-result : goal.invariant_of-result
+invariant_of-result c =
     let ir = c.args.ir.now in
     let p = c.args.prolog.now in
     let high : c.in_ok-height.height ≡ height_all ir.body.items = c.in_ok-height.ensures ∙ ap height_all c.deref.ensures.value in
@@ -18,5 +18,8 @@ returns-clause-valid c le =
     let prolog : c.put_definitions.new.out.items ≡ p.body.items = c.in_ok-put_definitions.ensures ∙ (λ i. c.new-body.ensures.items i ++ c.deref-2.ensures.value i) in
     let body : c.put_item.new.out.items ≡ p.body.items ++ masked_item p.ids.items p.live p.vals ir.vars ir.body.items =
     c.in_ok-put_item.ensures ∙ ap (λ l. l ++ masked_item p.ids.items p.live p.vals ir.vars ir.body.items) prolog in
-    (λ i. is_body (counted (vals i) (vars i) (length (arrays i)) (length (kinds i))) (body i))
-    ∙ batch_named ir.vals ir.vars (length ir.arrays.items) (length ir.kinds.items) p.vals p.body.items p.live p.ids.items ir.body.items le p.definitions p.named p.below ir.valid
+    record {
+      valid =
+          (λ i. is_body (counted (vals i) (vars i) (length (arrays i)) (length (kinds i))) (body i))
+          ∙ batch_named ir.vals ir.vars (length ir.arrays.items) (length ir.kinds.items) p.vals p.body.items p.live p.ids.items ir.body.items c.requires p.definitions p.named p.below ir.valid;
+    }

@@ -11,8 +11,8 @@ use Rattle.clc_inline.specs.declared.body.Node.{Row_of-TExpr, end_of-TExpr, more
 use Rattle.clc_inline.specs.declared.body.Node.TheVariants as v
 use Rattle.clc_inline.specs.declared.body.Node.TheBlock.{shape-the_row-TExpr-0, hidden-the_row-TExpr-0, hidden-the_row-Node-Chain-1-2-1, items-the_row-Node-Chain-1-2, items_hidden-the_row-Node-Chain-1-2-1, hidden-the_row-TExpr-2, items-the_row-TExpr, items_hidden-the_row-TExpr-2, shape-the_row-TStmt-3, hidden-the_row-TStmt-3, hidden-the_row-TStmt-4, items-the_row-TStmt, items_hidden-the_row-TStmt-4}
 use denote.Hole.Carrier.{hidden}
-use Rattle.ir_build.specs.Named.{all_below, is_node, in_chain, in_args, is_statement, in_block, in_beginnings, is_beginning}
-use Rattle.ir_build.specs.NamedLists.{are_nodes, are_operands, are_statements, are_beginnings, if_some, if_other}
+use Rattle.clc_inline.specs.Named.{all_below, is_node, in_chain, in_args, is_statement, in_block, in_beginnings, is_beginning}
+use Rattle.clc_inline.specs.NamedLists.{are_nodes, are_operands, are_statements, are_beginnings, if_some, if_other}
 
 module _ (n : ℕ) where
   chain_items : {i : _} (r : Row_of-Node-Chain-1-2 i) → in_chain n r ≡ are_operands n (items-the_row-Node-Chain-1-2 i r)

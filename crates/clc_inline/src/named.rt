@@ -1,11 +1,12 @@
 //! Whether a body names only what is there.
 
 ghost use Rattle.std.specs.Prelude.{◌≡◌, ◌&&◌, ◌^◌, nat_lt};
-ghost use Rattle.ir_build.specs.Named.{all_below, is_node, is_statement, is_beginning, is_named};
-ghost use Rattle.ir_build.specs.NamedLists.{are_nodes, are_operands, are_statements, are_beginnings, if_some, if_other};
+ghost use Rattle.clc_inline.specs.Named.{all_below, is_node, is_statement, is_beginning, is_named};
+ghost use Rattle.clc_inline.specs.NamedLists.{are_nodes, are_operands, are_statements, are_beginnings, if_some, if_other};
 
-use clc_inline::{Body, Node, TExpr, TStmt};
+use crate::body::{Node, TExpr, TStmt};
 use clc_lexer::Mark;
+use clc_types::Var;
 use sqlite_items::Boxed;
 
 fn both(a: bool, b: bool) -> bool
@@ -196,10 +197,10 @@ fn beginning(n: usize, a: &TStmt) -> bool
     }
 }
 
-/// Whether a body names only what is there. That of a typed kernel does, which isn't proved yet.
-pub(crate) fn is_sound(body: &Body) -> bool
-    ensures { result ≡ is_named body.now.vars.items body.now.params body.now.body }
+/// Whether a body names only what is there, among them so many parameters.
+pub(crate) fn is_sound(vars: &[Var], params: u32, body: &TStmt) -> bool
+    ensures { result ≡ is_named vars.now params body.now }
 {
-    let n = body.vars.len();
-    both(body.params as usize <= n, statement(n, false, &body.body))
+    let n = vars.len();
+    both(params as usize <= n, statement(n, false, body))
 }

@@ -3,7 +3,7 @@ use Rattle.std.specs.Prelude.{ℕ, Bool, true, ◌&&◌, List, [], ◌∷◌, Op
 use Rattle.clc_lexer.specs.declared.marks.Mark.{Mark}
 use Rattle.clc_inline.specs.declared.body.TExpr.{TExpr}
 use Rattle.clc_inline.specs.declared.body.TStmt.{TStmt}
-use Rattle.ir_build.specs.Named.{is_node, is_statement, is_beginning}
+use Rattle.clc_inline.specs.Named.{is_node, is_statement, is_beginning}
 
 module _ (n : ℕ) where
   abbrev pub are_nodes : List TExpr → Bool

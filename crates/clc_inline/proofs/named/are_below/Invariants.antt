@@ -1,6 +1,6 @@
 use Rattle.std.proofs.Common.{◌≡◌, drop}
-use Rattle.ir_build.specs.Named.{all_below}
-use Rattle.ir_build.proofs.named.are_below.Given as goal
+use Rattle.clc_inline.specs.Named.{all_below}
+use Rattle.clc_inline.proofs.named.are_below.Given as goal
 
 abbrev pub invariant-loop-param : goal.invariant-loop-param
 invariant-loop-param l = all_below l.n (drop l.param-index l.params) ≡ all_below l.n l.params

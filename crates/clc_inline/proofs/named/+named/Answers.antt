@@ -4,10 +4,10 @@ use Rattle.std.specs.Prelude.{◌&&◌}
 use Rattle.clc_lexer.specs.declared.marks.Mark.{Mark}
 use Rattle.clc_inline.specs.declared.body.TExpr.{TExpr}
 use Rattle.clc_inline.specs.declared.body.TStmt.{TStmt}
-use Rattle.ir_build.specs.Named.{all_below, is_node, is_statement}
-use Rattle.ir_build.specs.NamedLists.{are_nodes, are_operands, are_beginnings}
-use Rattle.ir_build.proofs.NamedForms.{at_node, named_index, named_element, named_deref, named_prefix, named_step, named_cast, named_paren, named_chain, named_cond, named_assign, named_scope, named_builtin, named_if, named_while, named_do, named_for}
-use Rattle.ir_build.proofs.named.+named.Goals as goal
+use Rattle.clc_inline.specs.Named.{all_below, is_node, is_statement}
+use Rattle.clc_inline.specs.NamedLists.{are_nodes, are_operands, are_beginnings}
+use Rattle.clc_inline.proofs.NamedForms.{at_node, named_index, named_element, named_deref, named_prefix, named_step, named_cast, named_paren, named_chain, named_cond, named_assign, named_scope, named_builtin, named_if, named_while, named_do, named_for}
+use Rattle.clc_inline.proofs.named.+named.Goals as goal
 
 pub node-returns-in-Index : goal.node-returns-in-Index
 node-returns-in-Index t c =

@@ -1,7 +1,7 @@
 -- What is left of a row passes the test where the whole row does.
 use Rattle.std.proofs.Common.{◌≡◌, drop}
-use Rattle.ir_build.specs.NamedLists.{are_nodes, are_operands, are_statements, are_beginnings}
-use Rattle.ir_build.proofs.named.+named.Given as goal
+use Rattle.clc_inline.specs.NamedLists.{are_nodes, are_operands, are_statements, are_beginnings}
+use Rattle.clc_inline.proofs.named.+named.Given as goal
 
 abbrev pub invariant-nodes-loop-e : goal.invariant-nodes-loop-e
 invariant-nodes-loop-e l = are_nodes l.n (drop l.e-index l.all) ≡ are_nodes l.n l.all

@@ -1,5 +1,5 @@
 -- The code of the accesses of valid statements names only what is there, over eight registers more than there are values.
-use Rattle.std.proofs.Common.{◌≡◌, ℕ, ◌+◌, ◌*◌, ◌^◌, ◌<◌, ◌≤◌, Bool, true, false, List, [], ◌∷◌, ◌++◌, refl, ap, ◌∙◌, arith, length}
+use Rattle.std.proofs.Common.{◌≡◌, ℕ, ◌+◌, ◌-◌, ◌*◌, ◌^◌, ◌<◌, ◌≤◌, Bool, true, false, List, [], ◌∷◌, ◌++◌, refl, ap, ◌∙◌, arith, length}
 use Rattle.std.specs.Prelude.{not, ◌&&◌, nat_le, nat_lt, ◌==◌, if◌then◌else◌, Some, None, get_or}
 use Rattle.std.proofs.lemmas.Bool.{and_from, and_parts, le-leb, lt-ltb, ltb-true, eq-eqb, ne_eqb}
 use Rattle.q_lane.specs.declared.kinds.Scalar.{Scalar}
@@ -18,15 +18,20 @@ use Rattle.vop_ir.specs.declared.form.Src.TheVariants as src
 use Rattle.vop_ir.specs.declared.form.Dst.{Dst}
 use Rattle.vop_ir.specs.declared.form.Dst.TheVariants as dst
 use Rattle.vop_ir.specs.declared.form.Vop.{Vop}
-use Rattle.vop_ir.specs.Operations.{plain, where_zero, where_set, copy, small}
+use Rattle.vop_ir.specs.Operations.{plain, flagged, where_zero, where_set, copy, small}
 use Rattle.vop_ir.specs.OneWord.{is_vop}
 use Rattle.vop_ir.specs.Runs.{Block, vops}
 use Rattle.vop_ir.specs.Valid.{are_ops, are_sections, is_op, holds, also_src, also_dst, named}
 use Rattle.vpm_dma_lower.specs.Elements.{size_src, take_op, take_by, load_base, store_base}
 use Rattle.vpm_dma_lower.specs.Code.{lock, unlock, wait_load, wait_store, idle, turned, turned_by, find, asks, steps_on, masks, compares, sums, load_length, store_length, core, load_core, store_core, own, brings_in, brings_back, load_blocks, store_blocks, finds_element, get_blocks, put_blocks, clear_first, clear_next, clear_blocks}
 use Rattle.vpm_dma_lower.specs.Accesses.{Code, code_over, first_row, codes, codes_row, codes_all}
-use Rattle.qpu_select.proofs.Parts.{leads_within, is_part, are_parts, are_codes}
-use Rattle.qpu_select.proofs.Operations.{FineOp, FineOps, Own, Below, fine, either_way, are_ops_fine, no_sections, fine_append, asks_fine, moves_fine, zero_fine}
+use Rattle.vpm_dma_lower.specs.Valid.{leads_within, is_part, are_parts, is_access, are_accesses}
+use Rattle.vpm_dma_lower.proofs.Fine.{FineOp, FineOps, Own, Below, fine, either_way, are_ops_fine, no_sections, fine_append, asks_fine, moves_fine, zero_fine}
+
+-- each code names only what is there, over these registers, and leaves register s as it is
+abbrev pub are_codes : ℕ → ℕ → List Code → Bool
+are_codes regs s [] = true
+are_codes regs s (c ∷ cs) = are_parts regs s (length c.blocks) c.blocks && are_codes regs s cs
 
 -- ---- sections
 
@@ -555,11 +560,21 @@ module _ (regs vals : ℕ) (room : vals + 8 ≤ regs) where
   put_fine : (first j x m : ℕ) → Mine j → Mine x → Mine m → are_parts regs vals 7 (put_blocks 0 vals first j x m) ≡ true
   put_fine first j x m oj ox om = store_core_fine 7 0 7 Int (finds_element vals first j x m) exits_of_store (finds_element_fine first j x m oj ox om)
 
-  clear_first_fine : (first m : ℕ) → Mine m → Fs (clear_first vals first m)
-  clear_first_fine first m om =
-      fine_append regs vals (lane_addresses first) (copy (dst.Reg (vals + 2)) (small 0) ∷ copy (dst.Reg (vals + 3)) (src.Reg m) ∷ copy (dst.Reg (vals + 7)) (small 0) ∷ [])
-      (lane_addresses_fine first)
-      (zero_fine regs vals (vals + 2) value, (moves_fine regs vals (vals + 3) m mask om.0, (zero_fine regs vals (vals + 7) rows, tt)))
+  clear_first_fine : (first len m : ℕ) → Mine m → Fs (clear_first vals first len m)
+  clear_first_fine first len m om =
+      fine_append regs vals (lane_addresses first)
+      (copy (dst.Reg (vals + 2)) (small 0)
+      ∷ copy (dst.Reg (vals + 3)) (src.Reg m)
+      ∷ copy (dst.Reg (vals + 7)) (small 0)
+      ∷ flagged (op.Add add_op.Sub) dst.Nowhere (src.Reg (vals + 7)) (src.Word len)
+      ∷ [])
+      (lane_addresses_fine first) (
+        zero_fine regs vals (vals + 2) value,
+        (
+          moves_fine regs vals (vals + 3) m mask om.0,
+          (zero_fine regs vals (vals + 7) rows, (fine regs vals _ refl rows.0 refl refl refl refl refl, tt)),
+        ),
+      )
 
   clear_next_fine : (len : ℕ) → Fs (clear_next vals len)
   clear_next_fine len = (
@@ -573,8 +588,8 @@ module _ (regs vals : ℕ) (room : vals + 8 ≤ regs) where
   clear_fine : (first len m : ℕ) → Mine m → are_parts regs vals 9 (clear_blocks 0 vals first len m) ≡ true
   clear_fine first len m om =
       let next : Block vops = record { ops = clear_next vals len; exit = Branch AnyNz 1 9 } in
-      more_parts regs vals 9 (record { ops = clear_first vals first m; exit = Jump 1 }) (store_core 1 8 Int (own vals) [] ++ next ∷ [])
-      (plain_part regs vals 9 (clear_first vals first m) (Jump 1) (clear_first_fine first m om) refl)
+      more_parts regs vals 9 (record { ops = clear_first vals first len m; exit = Branch AnyNz 1 9 }) (store_core 1 8 Int (own vals) [] ++ next ∷ [])
+      (plain_part regs vals 9 (clear_first vals first len m) (Branch AnyNz 1 9) (clear_first_fine first len m om) refl)
       (parts_append regs vals 9 (store_core 1 8 Int (own vals) []) (next ∷ []) (store_core_fine 9 1 8 Int [] exits_of_clear tt)
       (more_parts regs vals 9 next [] (plain_part regs vals 9 (clear_next vals len) (Branch AnyNz 1 9) (clear_next_fine len) refl) refl))
 
@@ -624,3 +639,50 @@ module _ (regs vals : ℕ) (room : vals + 8 ≤ regs) where
     all_fine (a ∷ rest) ok =
         let p = and_parts (is_stmt c a) (is_body c rest) ok in
         codes_append regs vals (codes vals lens a) (codes_all vals lens rest) (codes_fine a p.0) (all_fine rest p.1)
+
+-- ---- the list
+
+abbrev AllOver : ℕ → List Code → Type 0
+AllOver r [] = Unit {0}
+AllOver r (c ∷ cs) = (c.regs ≡ r) × AllOver r cs
+
+over_append : (r : ℕ) (cs ds : List Code) → AllOver r cs → AllOver r ds → AllOver r (cs ++ ds)
+over_append r [] ds p q = q
+over_append r (c ∷ cs) ds p q = (p.0, over_append r cs ds p.1 q)
+
+module _ (vals : ℕ) (lens : List ℕ) where
+  mutual
+    codes_over : (a : LaneStmt) → AllOver (vals + 8) (codes vals lens a)
+    codes_over (Let v d) = tt
+    codes_over (Put u x m) = tt
+    codes_over (Load t d a m) = (refl, tt)
+    codes_over (Store t a x m) = (refl, tt)
+    codes_over (GetElement k d j m) = (refl, tt)
+    codes_over (PutElement k j x m) = (refl, tt)
+    codes_over (Clear k m) = (refl, tt)
+    codes_over (WhileAny' i head m j body) = over_append (vals + 8) (codes_row vals lens head) (codes_row vals lens body) (row_over head) (row_over body)
+
+    row_over : {k : _} (a : Row_of-LaneStmt k) → AllOver (vals + 8) (codes_row vals lens a)
+    row_over end_of-LaneStmt = tt
+    row_over (more_of-LaneStmt a rest) = over_append (vals + 8) (codes vals lens a) (codes_row vals lens rest) (codes_over a) (row_over rest)
+
+  all_over : (body : List LaneStmt) → AllOver (vals + 8) (codes_all vals lens body)
+  all_over [] = tt
+  all_over (a ∷ rest) = over_append (vals + 8) (codes vals lens a) (codes_all vals lens rest) (codes_over a) (all_over rest)
+
+from_codes : (vals : ℕ) (cs : List Code) → AllOver (vals + 8) cs → are_codes (vals + 8) vals cs ≡ true → are_accesses cs ≡ true
+from_codes vals [] p h = refl
+from_codes vals (c ∷ cs) p h =
+    let q = and_parts (are_parts (vals + 8) vals (length c.blocks) c.blocks) (are_codes (vals + 8) vals cs) h in
+    let r = c.regs in
+    let e : r ≡ vals + 8 = p.0 in
+    let s : r - 8 ≡ vals = omega (arith, e) in
+    and_from (is_access c) (are_accesses cs)
+    (and_from (nat_le 8 r) (are_parts r (r - 8) (length c.blocks) c.blocks) (le-leb 8 r (omega (arith, e)))
+    ((λ i. are_parts (e i) (s i) (length c.blocks) c.blocks) ∙ q.0))
+    (from_codes vals cs p.1 q.1)
+
+-- the code of the accesses of a valid batch
+pub list_valid : (c : Counts) (lens : List ℕ) (body : List LaneStmt) → is_body c body ≡ true → are_accesses (codes_all c.vals lens body) ≡ true
+list_valid c lens body ok =
+    from_codes c.vals (codes_all c.vals lens body) (all_over c.vals lens body) (all_fine (c.vals + 8) c.vals (omega arith) c lens refl body ok)
