@@ -1,0 +1,2 @@
+pub mod BodyMeaning
+pub mod Rows

@@ -1,0 +1,5 @@
+pub mod Bytes
+pub mod Runs
+pub mod Accesses
+pub mod Statements
+pub mod Overlaid

@@ -1,0 +1,13 @@
+//! Laws, each the contract of a call that does nothing.
+
+ghost use Rattle.item_laws.specs.Locality.{RunsAreLocal, RerunsAreOverlaid};
+
+/// A run that ends changes only the bytes that it writes, and depends only on the bytes that it touches.
+pub fn law_local()
+    ensures { RunsAreLocal }
+{}
+
+/// Over another memory with the same bytes where a run reads or writes, it does the same, and the bytes that it doesn't write stay.
+pub fn law_overlaid()
+    ensures { RerunsAreOverlaid }
+{}
