@@ -1,0 +1,16 @@
+mod Lists
+mod Fits
+mod Steps
+mod Memory
+mod Ups
+mod Values
+mod Targets
+mod Nodes
+mod Scopes
+mod Flows
+mod Whole
+mod Opens
+mod Arguments
+mod Grounds
+mod Items
+mod Layouts

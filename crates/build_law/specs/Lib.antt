@@ -1,0 +1,3 @@
+pub mod Keeps
+pub mod Law
+pub mod Launched

@@ -1,0 +1,5 @@
+mod Enough
+mod EnoughTrees
+mod Stays
+mod StaysNodes
+mod StaysTrees

@@ -1,0 +1,13 @@
+mod Arrays
+mod Expressions
+mod Forms
+mod Functions
+mod Kernels
+mod Marks
+mod Pieces
+mod Scopes
+mod Statements
+mod Sums
+mod Trees
+mod Valid
+mod Whole

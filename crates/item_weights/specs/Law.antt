@@ -1,0 +1,42 @@
+-- What `build` makes of a body weighs no more than its nodes allow.
+use Rattle.std.specs.Prelude.{◌≡◌, ℕ, ◌+◌, ◌*◌, ◌≤◌, List, [], ◌∷◌, map, length}
+use Rattle.clc_types.specs.declared.typed.Var.{Var}
+use Rattle.clc_counts.specs.Counts.{array_tally}
+use Rattle.clc_inline.specs.declared.body.TStmt.{TStmt}
+use Rattle.ir_build.specs.Build.{body_code, array_length}
+use Rattle.item_weights.specs.Weights.{Weight, sum, IsAtMost, weight_of_text, weight_of_item, of_rows, of_numbers, limit}
+use Rattle.item_weights.specs.Nodes.{count_stmt}
+
+-- a parameter is no node, but it is stored in its variable, which takes three rows
+abbrev pub RowsAreFew : Type 0
+RowsAreFew = (vars : List Var) (params : ℕ) (body : TStmt) → (weight_of_text (body_code vars params body).stmts).rows ≤ 15 * count_stmt body + 3 * params
+
+-- the item of a body: its values and its variables are numbered alike
+abbrev pub weight_of_built : List Var → (params : ℕ) → TStmt → Weight
+weight_of_built vars params body = let c = body_code vars params body in weight_of_item c.next c.next c.stmts
+
+-- what parameters weigh: each is a value that is stored in its variable
+abbrev pub of_params : ℕ → Weight
+of_params n = sum (of_rows (3 * n)) (of_numbers n n)
+
+-- each variable of the body has a number among the values, and one among the variables
+abbrev pub WeighsLittle : Type 0
+WeighsLittle = (vars : List Var) (params : ℕ) (body : TStmt)
+    → IsAtMost (weight_of_built vars params body) (sum (limit (count_stmt body)) (sum (of_params params) (of_numbers (length vars) (length vars))))
+
+-- the same where each variable is a parameter or a node
+abbrev pub IsWithinLimit : Type 0
+IsWithinLimit = (vars : List Var) (params : ℕ) (body : TStmt) → length vars ≤ count_stmt body + params
+    → IsAtMost (weight_of_built vars params body) (sum (limit (count_stmt body)) (sum (of_params params) (of_numbers params params)))
+
+abbrev pub total : List ℕ → ℕ
+total [] = 0
+total (n ∷ rest) = n + total rest
+
+-- the elements of private arrays, as the limit of elements counts them
+abbrev pub elements_of : List Var → ℕ
+elements_of [] = 0
+elements_of (x ∷ rest) = (array_tally x).elements + elements_of rest
+
+abbrev pub ArraysAreThose : Type 0
+ArraysAreThose = (vars : List Var) → total (map array_length vars) ≡ elements_of vars

@@ -1,0 +1,4 @@
+pub mod Agreement
+pub mod Law
+pub mod Nodes
+pub mod Weights
