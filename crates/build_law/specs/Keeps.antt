@@ -53,7 +53,7 @@ use_of Write = Writes
 abbrev pub placed : (ℕ → ℕ) → Mark → Touch
 placed base a = record { how = use_of a.how; address = base a.buffer + a.from; len = a.to - a.from }
 
--- the states belong together, where d rounds more are left than turns
+-- the states belong together, where at least d rounds more are left than turns
 pub record Related (g : Ground) (d : ℕ) (s : State) (n : Item) : Type 0 where
   pub vars : (u : ℕ) → Same g.base (slice_index_or s.vars u Null) (n.vars u)
   pub count : length s.vars ≤ length g.vars

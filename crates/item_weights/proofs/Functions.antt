@@ -19,21 +19,21 @@ use Rattle.item_weights.proofs.Statements.{stmt_good}
 
 -- ---- lists
 
-get_below : (xs : List TFunction) (k : ℕ) (g : TFunction) → slice_get xs k ≡ Some g → k < length xs
+pub get_below : (xs : List TFunction) (k : ℕ) (g : TFunction) → slice_get xs k ≡ Some g → k < length xs
 get_below [] k g h = absurd (cc)
 get_below (x ∷ xs) zero g h = omega arith
 get_below (x ∷ xs) (suc k) g h = let p = get_below xs k g h in omega (arith, p)
 
-get_before : (xs ys : List TFunction) (k : ℕ) (g : TFunction) → slice_get xs k ≡ Some g → slice_get (xs ++ ys) k ≡ Some g
+pub get_before : (xs ys : List TFunction) (k : ℕ) (g : TFunction) → slice_get xs k ≡ Some g → slice_get (xs ++ ys) k ≡ Some g
 get_before [] ys k g h = absurd (cc)
 get_before (x ∷ xs) ys zero g h = h
 get_before (x ∷ xs) ys (suc k) g h = get_before xs ys k g h
 
-get_at : (xs : List TFunction) (f : TFunction) (ys : List TFunction) → slice_get (xs ++ f ∷ ys) (length xs) ≡ Some f
+pub get_at : (xs : List TFunction) (f : TFunction) (ys : List TFunction) → slice_get (xs ++ f ∷ ys) (length xs) ≡ Some f
 get_at [] f ys = refl
 get_at (x ∷ xs) f ys = get_at xs f ys
 
-get_end : (xs : List TFunction) (f g : TFunction) (k : ℕ) → slice_get (xs ++ f ∷ []) k ≡ Some g → (slice_get xs k ≡ Some g) ⊎ (k ≡ length xs)
+pub get_end : (xs : List TFunction) (f g : TFunction) (k : ℕ) → slice_get (xs ++ f ∷ []) k ≡ Some g → (slice_get xs k ≡ Some g) ⊎ (k ≡ length xs)
 get_end [] f g zero h = inr refl
 get_end [] f g (suc k) h = absurd (cc)
 get_end (x ∷ xs) f g zero h = inl h
@@ -43,24 +43,24 @@ get_end (x ∷ xs) f g (suc k) h = by (get_end xs f g k h)
     by (inl p) = inl p
     by (inr p) = inr (ap suc p)
 
-index_before : (ts : List Tally) (t : Tally) (k : ℕ) → k < length ts → slice_index_or (ts ++ t ∷ []) k none ≡ slice_index_or ts k none
+pub index_before : (ts : List Tally) (t : Tally) (k : ℕ) → k < length ts → slice_index_or (ts ++ t ∷ []) k none ≡ slice_index_or ts k none
 index_before [] t k h = absurd (omega (arith, h))
 index_before (x ∷ ts) t zero h = refl
 index_before (x ∷ ts) t (suc k) h = index_before ts t k (omega (arith, h))
 
-index_at : (ts : List Tally) (t : Tally) → slice_index_or (ts ++ t ∷ []) (length ts) none ≡ t
+pub index_at : (ts : List Tally) (t : Tally) → slice_index_or (ts ++ t ∷ []) (length ts) none ≡ t
 index_at [] t = refl
 index_at (x ∷ ts) t = index_at ts t
 
-length_end : {A : Type 0} (xs : List A) (x : A) → length (xs ++ x ∷ []) ≡ suc (length xs)
+pub length_end : {A : Type 0} (xs : List A) (x : A) → length (xs ++ x ∷ []) ≡ suc (length xs)
 length_end [] x = refl
 length_end (y ∷ xs) x = ap suc (length_end xs x)
 
-one_more : (xs : List TFunction) (f : TFunction) (ys : List TFunction) → (xs ++ f ∷ []) ++ ys ≡ xs ++ f ∷ ys
+pub one_more : (xs : List TFunction) (f : TFunction) (ys : List TFunction) → (xs ++ f ∷ []) ++ ys ≡ xs ++ f ∷ ys
 one_more [] f ys = refl
 one_more (x ∷ xs) f ys = ap (λ z. x ∷ z) (one_more xs f ys)
 
-none_more : (xs : List TFunction) → xs ++ [] ≡ xs
+pub none_more : (xs : List TFunction) → xs ++ [] ≡ xs
 none_more [] = refl
 none_more (x ∷ xs) = ap (λ z. x ∷ z) (none_more xs)
 
@@ -84,7 +84,7 @@ module _ (fs : List TFunction) (k base : ℕ) (vars : List Var) where
       (λ e. ap (λ m. body_of fs (bodies_below fs m) (slice_get fs k) base vars) (sym (equal k n e)))
       (λ e. one_called n (below k n h e))
 
-  body_called : (n : ℕ) (f : TFunction) → k < n → slice_get fs k ≡ Some f → bodies_below fs n k base vars ≡ stmt_made fs (bodies_below fs k) base f.body vars
+  pub body_called : (n : ℕ) (f : TFunction) → k < n → slice_get fs k ≡ Some f → bodies_below fs n k base vars ≡ stmt_made fs (bodies_below fs k) base f.body vars
   body_called n f h e = one_called n h ∙ ap (λ (o : Option TFunction). body_of fs (bodies_below fs k) o base vars) e
 
 -- ---- functions

@@ -1,8 +1,10 @@
 mod Arrays
+mod Bodies
 mod Expressions
 mod Forms
 mod Functions
 mod Kernels
+mod Lengths
 mod Marks
 mod Pieces
 mod Scopes
@@ -10,4 +12,7 @@ mod Statements
 mod Sums
 mod Trees
 mod Valid
+mod VarsOfExpressions
+mod VarsOfFunctions
+mod VarsOfStatements
 mod Whole

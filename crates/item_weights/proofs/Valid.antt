@@ -1,6 +1,6 @@
 -- What is well typed has well-typed parts.
-use Rattle.std.proofs.Common.{◌≡◌, Bool, true, List, [], ◌∷◌, Option, Some, None, refl}
-use Rattle.std.specs.Prelude.{◌&&◌, not, take}
+use Rattle.std.proofs.Common.{◌≡◌, ℕ, zero, suc, ◌≤◌, Bool, true, List, [], ◌∷◌, Option, Some, None, refl, sym, ap, ◌∙◌, subst, arith}
+use Rattle.std.specs.Prelude.{◌&&◌, not, length, take}
 use Rattle.std.proofs.lemmas.Bool.{false≢true, and_parts}
 use Rattle.clc_lexer.specs.declared.marks.Mark.{Mark}
 use Rattle.clc_types.specs.declared.typed.Ty.{Ty}
@@ -78,6 +78,24 @@ call_valid None xs t h = absurd (false≢true h)
 call_valid (Some g) xs t h =
     let p = and_parts (not g.kernel && all_accepted (take g.params g.vars) xs) (same_type (ty_of (result_kind g.result)) t) h in
     (g, refl, accepted_valid (take g.params g.vars) xs (and_parts (not g.kernel) (all_accepted (take g.params g.vars) xs) p.0).1)
+
+accepted_all : (vs : List Var) (xs : List Seen) → all_accepted vs xs ≡ true → length vs ≡ length xs
+accepted_all [] [] h = refl
+accepted_all [] (x ∷ xs) h = absurd (false≢true h)
+accepted_all (v ∷ vs) [] h = absurd (false≢true h)
+accepted_all (v ∷ vs) (x ∷ xs) h = ap suc (accepted_all vs xs (and_parts (x.valid && accepts (value_type v) x.ty) (all_accepted vs xs) h).1)
+
+taken : (n : ℕ) (vs : List Var) → n ≤ length vs → length (take n vs) ≡ n
+taken zero vs h = refl
+taken (suc n) [] h = absurd (omega (arith, h))
+taken (suc n) (v ∷ vs) h = ap suc (taken n vs (omega (arith, h)))
+
+-- a call has an argument for each parameter
+pub accepted_length : (o : Option TFunction) (xs : List Seen) (t : Ty) → is_call o xs t ≡ true → (g : TFunction) → o ≡ Some g → g.params ≤ length g.vars → length xs ≡ g.params
+accepted_length o xs t h g e l =
+    let i = subst (λ (z : Option TFunction). is_call z xs t ≡ true) e h in
+    let p = and_parts (not g.kernel && all_accepted (take g.params g.vars) xs) (same_type (ty_of (result_kind g.result)) t) i in
+    sym (accepted_all (take g.params g.vars) xs (and_parts (not g.kernel) (all_accepted (take g.params g.vars) xs) p.0).1) ∙ taken g.params g.vars l
 
 pub builtin_valid : (a c d : Bool) (xs : List Seen) → (a && all_values xs && c && d) ≡ true → AreValid xs
 builtin_valid a c d xs h =

@@ -1,4 +1,6 @@
 pub mod Agreement
+pub mod Bodies
 pub mod Law
 pub mod Nodes
+pub mod Plain
 pub mod Weights

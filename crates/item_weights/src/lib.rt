@@ -1,7 +1,8 @@
-//! How much the form of one item may weigh, and that what `build` makes of a body weighs no more than its nodes allow. Laws alone.
+//! How much the form of one item may weigh, and that what `build` makes of a body weighs no more than its nodes and parameters allow. Laws alone.
 #![tactic(auto)]
 
-ghost use Rattle.item_weights.specs.Agreement.{NodesAreCounted, KernelsWeighLittle};
+ghost use Rattle.item_weights.specs.Agreement.{NodesAreCounted, KernelsWeighLittle, ElementsAreCounted, VariablesAreFew, KernelsAreWithinLimit};
+ghost use Rattle.item_weights.specs.Bodies.{BodiesAreWithinLimit};
 ghost use Rattle.item_weights.specs.Law.{RowsAreFew, WeighsLittle, IsWithinLimit, ArraysAreThose};
 
 /// What is built of a body has at most 15 rows for each of its nodes, and three for each parameter.
@@ -32,4 +33,24 @@ pub fn law_nodes()
 /// What is built of a well-typed kernel is within the limit of the nodes that the kernel counts, but for its parameters, at most 16, and two numbers of each variable.
 pub fn law_kernels()
     ensures { KernelsWeighLittle }
+{}
+
+/// Where an expression or a declaration stands first in each `for`, the inlined kernel's variables have the elements that are counted.
+pub fn law_elements()
+    ensures { ElementsAreCounted }
+{}
+
+/// Then each of them is a node or a parameter of the kernel.
+pub fn law_variables()
+    ensures { VariablesAreFew }
+{}
+
+/// Then all four weights are within the limit of the nodes, but for the parameters, at most 16.
+pub fn law_kernel_limit()
+    ensures { KernelsAreWithinLimit }
+{}
+
+/// The item of a body that `inline` gives is within that limit, and its arrays have at most 1,024 elements.
+pub fn law_bodies()
+    ensures { BodiesAreWithinLimit }
 {}
