@@ -1,8 +1,8 @@
 -- A kernel of a form that is built so far does nothing.
-use Rattle.std.proofs.Common.{◌≡◌, ℕ, zero, suc, ◌-◌, List, [], ◌∷◌, refl, sym, ap, ◌∙◌, subst, arith, cond, rules, tests}
+use Rattle.std.proofs.Common.{◌≡◌, ℕ, zero, suc, ◌-◌, List, [], ◌∷◌, refl, sym, ap, ◌∙◌, arith, rules, tests}
 use Rattle.std.proofs.Math.Path.{fun_ext}
 use Rattle.std.proofs.lemmas.Bool.{le-ltb}
-use Rattle.std.specs.Prelude.{Bool, true, false, ◌&&◌, eqb, nat_eq, nat_lt, if◌then◌else◌, Option, Some, None, slice_get, map, take}
+use Rattle.std.specs.Prelude.{Bool, true, false, ◌&&◌, eqb, nat_eq, nat_lt, if◌then◌else◌, Some, slice_get, map, take}
 use Rattle.q_functions.specs.declared.work.Work.{Work}
 use Rattle.q_functions.specs.WorkFunctions.{work_of}
 use Rattle.launch_file.specs.Launches.{LaunchOf}
@@ -18,6 +18,7 @@ use Rattle.clc_types.specs.declared.typed.TFunction.{TFunction}
 use Rattle.clc_front.specs.Profile.{HasKernel}
 use Rattle.clc_front.specs.Kinds.{kind_of, kinds_of, kinds_at}
 use Rattle.clc_front.proofs.Violations.{judged_once}
+use Rattle.clc_counts.specs.Counts.{tally_of}
 use Rattle.item_meaning.specs.declared.values.Value.{Value}
 use Rattle.item_meaning.specs.ItemState.{State, then_do, node}
 use Rattle.item_meaning.specs.declared.values.Flow.{Flow}
@@ -27,6 +28,7 @@ use Rattle.item_meaning.specs.ItemMeaning.{Calls, does, does_all, entered, back_
 use Rattle.promise.specs.Kernel.{Kernel, idle_item, idle_kernel}
 use Rattle.compile_pipe.specs.Profile.{is_empty_block, is_built, IsInProfile}
 use Rattle.compile_pipe.specs.Kernels.{kernel_at, IsKernel}
+use Rattle.compile_pipe.proofs.IdleNodes.{one_node}
 
 -- ---- a function of such a form
 
@@ -114,7 +116,9 @@ same_item f g h = λ i launch id buffers turns. h launch id buffers turns i
 built_is_idle : (functions : List TFunction) (n : ℕ) (f : TFunction) → slice_get functions n ≡ Some f → is_built f ≡ true → kernel_at functions n ≡ idle_kernel
 built_is_idle functions n f there built =
     let none : kinds_at functions n ≡ [] = kinds_here functions n f there ∙ ap (λ k. map kind_of (take k f.vars)) (no_params f.params (first_of (eqb f.params 0) (is_empty_block (out-TStmt f.body)) built)) in
-    ap (λ kinds. record { kinds = kinds; nodes = 1; item = item functions n }) none
+    let empty = second_of (eqb f.params 0) (is_empty_block (out-TStmt f.body)) built in
+    ap (λ kinds. record { kinds = kinds; nodes = (tally_of functions n).nodes; item = item functions n }) none
+    ∙ ap (λ nodes. record { kinds = []; nodes = nodes; item = item functions n }) (one_node functions n f there empty)
     ∙ ap (λ it. record { kinds = []; nodes = 1; item = it }) (same_item (item functions n) idle_item (λ launch id buffers turns. idle_here functions n f launch id buffers turns there built))
 
 -- the kernel of a source in the profile

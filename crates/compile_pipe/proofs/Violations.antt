@@ -3,7 +3,7 @@ use Rattle.std.proofs.Common.{◌≡◌, ℕ, List, Bool, true, false, refl, sym
 use Rattle.std.specs.Prelude.{◌⊎◌, Result, Ok, Err, IfOk}
 use Rattle.std.specs.Result.{IsErrAnd}
 use Rattle.clc_types.specs.declared.typed.TFunction.{TFunction}
-use Rattle.clc_front.specs.Profile.{HasKernel, IsFirstViolation as IsFirstOfFront}
+use Rattle.clc_front.specs.Profile.{IsFirstViolation as IsFirstOfFront}
 use Rattle.clc_front.proofs.Violations.{same_function, judged_once}
 use Rattle.promise.specs.declared.refusal.SourceRule.{SourceRule}
 use Rattle.promise.specs.declared.refusal.Refusal.{Refusal}

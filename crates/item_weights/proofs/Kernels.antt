@@ -7,8 +7,10 @@ use Rattle.clc_types.specs.declared.typed.TStmt.{out-TStmt}
 use Rattle.clc_types.specs.declared.typed.TFunction.{TFunction}
 use Rattle.clc_types.specs.WellTyped.{no_arrays, counts, declared, is_block, stmt_fits, function_fits, functions_fit}
 use Rattle.clc_inline.specs.Inlining.{inlined}
+use Rattle.ir_weights.specs.Weights.{IsAtMost}
+use Rattle.item_weights.specs.Law.{weight_of_built, limit}
 use Rattle.item_weights.specs.Agreement.{KernelsWeighLittle, KernelsAreWithinLimit}
-use Rattle.item_weights.proofs.Whole.{weighs_little, is_within_limit}
+use Rattle.item_weights.proofs.Whole.{one_at_least, weighs_little, is_within_limit}
 use Rattle.item_weights.proofs.Functions.{nodes_are_counted}
 use Rattle.item_weights.proofs.VarsOfFunctions.{variables_are_few}
 
@@ -49,13 +51,12 @@ kernels_weigh_little fs k f h e =
     let p = weighs_little b.vars f.params b.made in let p0 = p.0 in let p1 = p.1 in let p2 = p.2 in let p3 = p.3 in
     let n = nodes_are_counted fs k f h e in
     let q = params_at fs [] k f h e in
-    (omega (arith, p0, n, q), omega (arith, p1, n, q), omega (arith, p2, n, q), omega (arith, p3, n, q))
+    let one = one_at_least b.made in
+    (omega (arith, p0, n, q), omega (arith, p1, n, q), omega (arith, p2, n, q, one), omega (arith, p3, n, q, one))
 
 pub kernels_are_within_limit : KernelsAreWithinLimit
 kernels_are_within_limit fs k f h w e =
     let b = inlined fs k in
     let n = nodes_are_counted fs k f h e in
     let v = variables_are_few fs k f h w e in
-    let p = is_within_limit b.vars f.params b.made (omega (arith, n, v)) in let p0 = p.0 in let p1 = p.1 in let p2 = p.2 in let p3 = p.3 in
-    let q = params_at fs [] k f h e in
-    (omega (arith, p0, n, q), omega (arith, p1, n, q), omega (arith, p2, n, q), omega (arith, p3, n, q))
+    subst (λ x. IsAtMost (weight_of_built b.vars f.params b.made) (limit x)) n (is_within_limit b.vars f.params b.made (params_at fs [] k f h e) (omega (arith, n, v)))

@@ -12,7 +12,7 @@ use Rattle.clc_counts.specs.declared.tally.Tally.{Tally}
 use Rattle.clc_counts.specs.Counts.{none, sum, summed, array_tally, stmt_counts, function_count, counted_after, tally_of}
 use Rattle.clc_inline.specs.Inlining.{Made, bodies_below, inlined, kernel_made}
 use Rattle.item_weights.specs.Law.{elements_of}
-use Rattle.item_weights.specs.Plain.{plain_in, are_plain}
+use Rattle.clc_plain.specs.Plain.{plain_in, are_plain}
 use Rattle.item_weights.specs.Agreement.{ElementsAreCounted, VariablesAreFew}
 use Rattle.item_weights.proofs.Functions.{get_below, get_before, get_at, get_end, index_before, index_at, length_end, one_more, none_more, body_called}
 use Rattle.item_weights.proofs.VarsOfExpressions.{Adds, CallsAdd}

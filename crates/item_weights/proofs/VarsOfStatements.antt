@@ -17,7 +17,7 @@ use Rattle.clc_counts.specs.Counts.{so_many, sum, Counted, wholes_summed, begins
 use Rattle.clc_inline.specs.declared.body.TStmt.{TStmt}
 use Rattle.clc_inline.specs.Inlining.{Makes, listed, Bodies, maybe_made, stmt_layer as made_layer, stmt_made}
 use Rattle.item_weights.specs.Law.{elements_of}
-use Rattle.item_weights.specs.Plain.{Plain, all_plain, all_first, plain_layer, plain_in}
+use Rattle.clc_plain.specs.Plain.{Plain, all_plain, all_first, plain_layer, plain_in}
 use Rattle.item_weights.proofs.Valid.{value_valid}
 use Rattle.item_weights.proofs.Lengths.{length_both}
 use Rattle.item_weights.proofs.VarsOfExpressions.{CallsAdd, makes, tally, saw, expr_good}

@@ -2,5 +2,3 @@ pub mod Agreement
 pub mod Bodies
 pub mod Law
 pub mod Nodes
-pub mod Plain
-pub mod Weights

@@ -1,21 +1,24 @@
-//! How much the form of one item may weigh, and that what `build` makes of a body weighs no more than its nodes and parameters allow. Laws alone.
+//! What `build` makes of a body weighs no more than its nodes and at most 16 parameters allow. Laws alone.
 #![tactic(auto)]
 
 ghost use Rattle.item_weights.specs.Agreement.{NodesAreCounted, KernelsWeighLittle, ElementsAreCounted, VariablesAreFew, KernelsAreWithinLimit};
-ghost use Rattle.item_weights.specs.Bodies.{BodiesAreWithinLimit};
+ghost use Rattle.item_weights.specs.Bodies.{BodiesAreWithinLimit, ProgramsAreWithinLimit};
 ghost use Rattle.item_weights.specs.Law.{RowsAreFew, WeighsLittle, IsWithinLimit, ArraysAreThose};
+
+use clc_plain::law_plain;
+use clc_well_typed::law_well_typed;
 
 /// What is built of a body has at most 15 rows for each of its nodes, and three for each parameter.
 pub fn law_rows()
     ensures { RowsAreFew }
 {}
 
-/// Its words, rows, steps and numbers are within the limit of its nodes, but for those of its parameters and two numbers of each variable.
+/// Its words, rows, steps and numbers are at most those that go with 15 rows for each node, with the moves of the parameters, and with its values and variables.
 pub fn law_weights()
     ensures { WeighsLittle }
 {}
 
-/// All four are within the limit of its nodes, but for its parameters, where each other variable is a node.
+/// All four are within the limit of its nodes, where it has at most 16 parameters and each other variable is a node.
 pub fn law_limit()
     ensures { IsWithinLimit }
 {}
@@ -30,7 +33,7 @@ pub fn law_nodes()
     ensures { NodesAreCounted }
 {}
 
-/// What is built of a well-typed kernel is within the limit of the nodes that the kernel counts, but for its parameters, at most 16, and two numbers of each variable.
+/// What is built of a well-typed kernel is within the limit of the nodes that the kernel counts, but for two numbers of each variable.
 pub fn law_kernels()
     ensures { KernelsWeighLittle }
 {}
@@ -45,7 +48,7 @@ pub fn law_variables()
     ensures { VariablesAreFew }
 {}
 
-/// Then all four weights are within the limit of the nodes, but for the parameters, at most 16.
+/// Then all four weights are within the limit of the nodes.
 pub fn law_kernel_limit()
     ensures { KernelsAreWithinLimit }
 {}
@@ -54,3 +57,12 @@ pub fn law_kernel_limit()
 pub fn law_bodies()
     ensures { BodiesAreWithinLimit }
 {}
+
+/// The same of each kernel of a program that breaks no typing rule.
+pub fn law_programs()
+    ensures { ProgramsAreWithinLimit }
+{
+    law_well_typed();
+    law_plain();
+    law_bodies();
+}

@@ -1,4 +1,4 @@
-use Rattle.std.proofs.Common.{◌≡◌, sym, ap, ◌∙◌, ◌<◌, length, get_or}
+use Rattle.std.proofs.Common.{sym, ap, ◌∙◌, get_or}
 use Rattle.promise.specs.declared.refusal.SourceRule.TheVariants.{N0}
 use Rattle.clc_front.proofs.SourceSteps.{there_at}
 use Rattle.compile_pipe.specs.Profile.{unbuilt}

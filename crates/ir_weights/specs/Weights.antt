@@ -1,5 +1,5 @@
 -- What one statement of an item may become further down. These are bounds that the passes after `build` have to keep, no measures of what they make.
-use Rattle.std.specs.Prelude.{ℕ, ◌+◌, ◌*◌, ◌≤◌, true, false, List, [], ◌∷◌}
+use Rattle.std.specs.Prelude.{◌≡◌, ℕ, ◌+◌, ◌*◌, ◌≤◌, true, false, List, [], ◌∷◌, ◌++◌}
 use Rattle.q_lane.specs.declared.operations.BinOp.{BinOp}
 use Rattle.q_lane.specs.declared.operations.BinOp.TheVariants.{Add, Sub, Mul, MulHi, Div, Rem, And, Or, Xor, Shl, Shr, Sar, Min, Max, Less, Equal, Mul24}
 use Rattle.q_lane.specs.declared.operations.UnOp.{UnOp}
@@ -28,6 +28,10 @@ IsAtMost a b = (a.words ≤ b.words) × (a.rows ≤ b.rows) × (a.steps ≤ b.st
 -- what goes with so many rows
 abbrev pub of_rows : ℕ → Weight
 of_rows n = record { words = 59 * n; rows = n; steps = 8900000 * n; numbers = 4000 * n }
+
+-- the same of statements that only move a word: each machine word of theirs takes 17 steps, and none is done again
+abbrev pub of_moves : ℕ → Weight
+of_moves n = record { words = 59 * n; rows = n; steps = 1003 * n; numbers = 100 * n }
 
 -- ---- definitions
 
@@ -74,6 +78,9 @@ rows_of_def d.Flat = 1
 rows_of_def d.Items = 1
 
 abbrev pub weight_of_def : Def → Weight
+weight_of_def (d.Const x) = of_moves 1
+weight_of_def (d.Param p) = of_moves 1
+weight_of_def (d.Get u) = of_moves 1
 weight_of_def e = of_rows (rows_of_def e)
 
 -- ---- statements
@@ -81,7 +88,7 @@ weight_of_def e = of_rows (rows_of_def e)
 abbrev mutual
   pub weight_of_stmt : Stmt → Weight
   weight_of_stmt (Let x e) = weight_of_def e
-  weight_of_stmt (Set u x) = of_rows 2
+  weight_of_stmt (Set u x) = of_moves 2
   weight_of_stmt (Store t a x) = of_rows 10
   weight_of_stmt (SetElement a i x) = of_rows 10
   weight_of_stmt (Clear a) = of_rows 6
@@ -109,6 +116,6 @@ of_numbers vals vars = record { words = 0; rows = 0; steps = 0; numbers = vals +
 abbrev pub weight_of_item : (vals vars : ℕ) → List Stmt → Weight
 weight_of_item vals vars body = sum (weight_of_text body) (of_numbers vals vars)
 
--- what so many nodes of a body may weigh at most
-abbrev pub limit : (nodes : ℕ) → Weight
-limit n = record { words = 896 * n; rows = 15 * n; steps = 134217728 * n; numbers = 65536 * n }
+-- the text of one list behind another weighs what both do
+abbrev pub TextsAreSummed : Type 0
+TextsAreSummed = (a b : List Stmt) → weight_of_text (a ++ b) ≡ sum (weight_of_text a) (weight_of_text b)

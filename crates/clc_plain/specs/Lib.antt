@@ -1,0 +1,2 @@
+pub mod ArePlain
+pub mod Plain
