@@ -1,0 +1,14 @@
+pub mod Stacks
+pub mod Masks
+pub mod Places
+pub mod Worlds
+pub mod Lanes
+pub mod Weights
+pub mod Law
+pub mod Emitted
+pub mod Joins
+pub mod Flows
+pub mod Leave
+pub mod Define
+pub mod Leaves
+pub mod Constructs

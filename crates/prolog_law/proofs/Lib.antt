@@ -1,0 +1,5 @@
+mod Quotients
+mod Thirds
+mod Acts
+mod Steps
+mod Ids
