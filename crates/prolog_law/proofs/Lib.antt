@@ -3,3 +3,4 @@ mod Thirds
 mod Acts
 mod Steps
 mod Ids
+mod Costs

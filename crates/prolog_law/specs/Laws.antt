@@ -46,3 +46,7 @@ abbrev pub PrologsRight : Type 0
 PrologsRight =
     (launch : LaunchOf) (w : World) (n i k : ℕ) (u : Uses) (s : State) → IsLaunch launch → IsBatchOf launch w → n ≤ 16
     → (t : State) × (run_all w n i (prolog k u) s ≡ Ends t) × Opened launch w n k u s t
+
+-- a prolog always ends, and the operations done are few: each is one of the processor, but for a quotient or a remainder, which stands for those of its loop
+abbrev pub PrologsAreShort : Type 0
+PrologsAreShort = (w : World) (n i k : ℕ) (u : Uses) (s : State) → (t : State) × (run_all w n i (prolog k u) s ≡ Ends t) × (t.steps ≤ s.steps + 8133)
