@@ -3,10 +3,10 @@ use Rattle.std.proofs.Common.{◌≡◌, ℕ, zero, suc, ◌<◌, ◌≤◌, inl
 use Rattle.std.specs.Prelude.{if◌then◌else◌, nat_lt}
 use Rattle.std.proofs.lemmas.Bool.{cases_eq}
 use Rattle.item_ir.specs.IrMeaning.{World as ItemWorld, State as Item, Flow, Next}
-use Rattle.item_ir.specs.declared.form.Val.{Val}
 use Rattle.item_ir.specs.declared.form.Def.TheVariants as d
 use Rattle.lane_ir.specs.LaneMeaning.{World, State, Run, Ends, and_then, is_on, each, where_on, starts, defines}
 use Rattle.lane_ir.proofs.Steps.{bool_cases, with_at-same, with_at-other}
+use Rattle.mask_law.specs.Worlds.{Ids}
 use Rattle.mask_law.specs.Stacks.{Entry}
 use Rattle.mask_law.specs.Masks.{column, after}
 use Rattle.mask_law.specs.Lanes.{Bytes, LaneRel, total, Before, After, row_of, lane_log}
@@ -109,7 +109,7 @@ module _ (n nu nv : ℕ) (b : Bytes n) (act : ℕ → Bool) (K : ℕ → ℕ →
       clash false h g = cc
 
 -- all lanes, where the access in lane l is g l
-pub accessed : (w : World) (n nu nv tests many : ℕ) (b : Bytes n) (ids : List Val) (xs : ℕ → ItemWorld) (act : ℕ → Bool) (K : ℕ → ℕ → Type 0) (D E : ℕ → Type 0)
+pub accessed : (w : World) (n nu nv tests many : ℕ) (b : Bytes n) (ids : Ids) (xs : ℕ → ItemWorld) (act : ℕ → Bool) (K : ℕ → ℕ → Type 0) (D E : ℕ → Type 0)
     (k v : ℕ) (e : Entry) (st : List Entry) (t : State) (s s' : ℕ → Item) (f : ℕ → Flow) (g : ℕ → State → Run)
     → Before n nu nv tests b ids xs act K D k v (e ∷ st) t s
     → ((l : ℕ) → l < n → act l ≡ false → s' l ≡ s l)

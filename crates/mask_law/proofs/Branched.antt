@@ -5,11 +5,11 @@ use Rattle.std.proofs.lemmas.Bool.{and_parts}
 use Rattle.item_ir.specs.Memory.{with_at}
 use Rattle.item_ir.specs.Valid.{Counts, Known}
 use Rattle.item_ir.specs.IrMeaning.{World as ItemWorld, State as Item, Run as Ran, Ends as Done, Flow, at_zero}
-use Rattle.item_ir.specs.declared.form.Val.{Val}
 use Rattle.lane_ir.specs.LaneMeaning.{World, State, Ends, is_on, chosen, run_all}
 use Rattle.lane_ir.specs.declared.form.LaneStmt.{LaneStmt}
 use Rattle.lane_ir.proofs.Steps.{bool_cases, run_on, with_at-same, with_at-other}
 use Rattle.mask_flow.specs.Masked.{chooses, settles, branches}
+use Rattle.mask_law.specs.Worlds.{Ids}
 use Rattle.mask_law.specs.Stacks.{Branch, Entry, branch, place, val}
 use Rattle.mask_law.specs.Masks.{column, top_on, all_on, settle, after, flow_has}
 use Rattle.mask_law.specs.Joins.{tail, mask}
@@ -73,7 +73,7 @@ rel_settled b m nu k v ops l K t t' x q low old =
       log = ap (lane_log l) q.log ∙ old.log;
     }
 
-module _ (w : World) (xs : ℕ → ItemWorld) (ids : List Val) (n tests : ℕ) (c : Counts) (w1 w2 : ℕ) (Z1 Z2 : ℕ → Item → Ran) (known E1 E2 : Known) (x k v : ℕ) (e : Entry) (st : List Entry) (A B : List LaneStmt)
+module _ (w : World) (xs : ℕ → ItemWorld) (ids : Ids) (n tests : ℕ) (c : Counts) (w1 w2 : ℕ) (Z1 Z2 : ℕ → Item → Ran) (known E1 E2 : Known) (x k v : ℕ) (e : Entry) (st : List Entry) (A B : List LaneStmt)
     (at : known x ≡ true)
     (flows1 : (l : ℕ) (y : Item) (f : Flow) (z : Item) → Z1 l y ≡ Done f z → flow_has f (e ∷ st) ≡ true)
     (flows2 : (l : ℕ) (y : Item) (f : Flow) (z : Item) → Z2 l y ≡ Done f z → flow_has f (e ∷ st) ≡ true)

@@ -9,6 +9,7 @@ use Rattle.item_ir.specs.declared.form.Val.{Val}
 use Rattle.lane_ir.specs.Weights.{done}
 use Rattle.lane_ir.specs.LaneMeaning.{World, State, value, defines}
 use Rattle.lane_ir.proofs.Steps.{bool_cases, with_at-same, with_at-other}
+use Rattle.mask_law.specs.Worlds.{Ids}
 use Rattle.mask_law.specs.Stacks.{Entry}
 use Rattle.mask_law.specs.Masks.{column, after}
 use Rattle.mask_law.specs.Lanes.{Bytes, LaneRel, total, Before, Items, After, row_of}
@@ -27,7 +28,7 @@ or_true true b h = inl refl
 or_true false b h = inr h
 
 -- what a definition gives in a lane is W of its item
-pub defined : (x : Val) (e : Def) (W : ℕ → Item → ℕ) (w : World) (xs : ℕ → ItemWorld) (ids : List Val) (n tests : ℕ) (c : Counts) (b : Bytes n) (act : ℕ → Bool) (known : Known) (knowns : ℕ → Known)
+pub defined : (x : Val) (e : Def) (W : ℕ → Item → ℕ) (w : World) (xs : ℕ → ItemWorld) (ids : Ids) (n tests : ℕ) (c : Counts) (b : Bytes n) (act : ℕ → Bool) (known : Known) (knowns : ℕ → Known)
     (k v : ℕ) (e' : Entry) (st : List Entry) (t : State) (s s' : ℕ → Item) (f : ℕ → Flow)
     → x.0 < c.vals → not (known x.0) ≡ true
     → ((l : ℕ) → l < n → act l ≡ true → value w t l e ≡ W l (s l))

@@ -97,7 +97,7 @@ allowed_is true f x y e = (refl, cc, cc)
 allowed_is false f x y e = cc
 
 pub clear_masked : ClearsMasked
-clear_masked r w xs ids n tests c around b act known knowns k v e st t s s' f fit within same before items =
+clear_masked r w xs ids n tests c around b act known knowns k v e st t s s' f fit asks within same before items =
     let K : ℕ → ℕ → Type 0 = λ l j. knowns l j ≡ true in
     let E : ℕ → Type 0 = λ j. known j ≡ true in
     let ran : (l : ℕ) → l < n → act l ≡ true → (f l ≡ Next) × (s' l ≡ cleared r (s l)) = λ l lt a. next_is (f l) (cleared r (s l)) (s' l) (items.on l lt a) in
@@ -124,7 +124,7 @@ clear_masked r w xs ids n tests c around b act known knowns k v e st t s s' f fi
     (z.0, ap (λ (o : Run). and_then o (run_all w n tests [])) z.1, z.2)
 
 pub set_element_masked : SetElementsMasked
-set_element_masked r j x w xs ids n tests c around b act known knowns k v e st t s s' f fit within same before items =
+set_element_masked r j x w xs ids n tests c around b act known knowns k v e st t s s' f fit asks within same before items =
     let K : ℕ → ℕ → Type 0 = λ l i. knowns l i ≡ true in
     let E : ℕ → Type 0 = λ i. known i ≡ true in
     let fits = and_parts (known j.0) (known x.0) (and_parts (nat_lt r c.arrays) (known j.0 && known x.0) fit).1 in
@@ -159,7 +159,7 @@ set_element_masked r j x w xs ids n tests c around b act known knowns k v e st t
     (z.0, ap (λ (o : Run). and_then o (run_all w n tests [])) z.1, z.2)
 
 pub element_masked : ElementsMasked
-element_masked x r j w xs ids n tests c around b act known knowns k v e st t s s' f fit within same before items =
+element_masked x r j w xs ids n tests c around b act known knowns k v e st t s s' f fit asks within same before items =
     let K : ℕ → ℕ → Type 0 = λ l i. knowns l i ≡ true in
     let D : ℕ → Type 0 = λ i. known i ≡ true in
     let E : ℕ → Type 0 = λ i. with_known x.0 known i ≡ true in

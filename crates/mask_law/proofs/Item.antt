@@ -5,7 +5,6 @@ use Rattle.std.proofs.lemmas.Bool.{and_parts, cases_eq}
 use Rattle.item_ir.specs.Memory.{with_at}
 use Rattle.item_ir.specs.Valid.{Counts, Around, in_scope as scope_around, Known, none_known, known_after, is_stmt, are_stmts, is_item}
 use Rattle.item_ir.specs.IrMeaning.{World as ItemWorld, State as Item, Touched, Reads, Writes, Touch as Access, Run as Ran, Ends as Done, Flow, run_all as run_items}
-use Rattle.item_ir.specs.declared.form.Val.{Val}
 use Rattle.item_ir.specs.declared.form.Def.TheVariants as d
 use Rattle.item_ir.specs.declared.form.Stmt.{Stmt}
 use Rattle.item_laws.specs.Locality as local
@@ -16,7 +15,7 @@ use Rattle.mask_flow.specs.Masked.{val, masked_all, masked_item}
 use Rattle.mask_law.specs.Stacks.{Entry, In_scope, in_scope, place}
 use Rattle.mask_law.specs.Masks.{has}
 use Rattle.mask_law.specs.Weights.{weight_all}
-use Rattle.mask_law.specs.Worlds.{SameWorld}
+use Rattle.mask_law.specs.Worlds.{Ids, SameWorld, asks, asks_all}
 use Rattle.mask_law.specs.Lanes.{is_write, in_access, touches, writes, Bytes, total, Open, Before, Items, After, lane_log}
 use Rattle.mask_law.specs.Law.{mem_before, OneByOne, Begins, EndsAs, KeepsItems}
 use Rattle.mask_law.proofs.All.{stmt_keeps, still_known, low_after, none_keeps}
@@ -37,16 +36,17 @@ list_grows : (x : ItemWorld) (body : List Stmt) (y : Item) → Grows y (run_item
 list_grows x [] y = stays y y refl
 list_grows x (a ∷ rest) y = grows_then y (Rattle.item_ir.specs.IrMeaning.run x a y) (run_items x rest) (run_grows x a y) (list_grows x rest)
 
-list_keeps : (w : World) (xs : ℕ → ItemWorld) (ids : List Val) (n tests : ℕ) (c : Counts) (same : (l : ℕ) → l < n → SameWorld w (xs l)) (r : Around) (body : List Stmt) (known : Known) (k v : ℕ) (e : Entry) (st : List Entry)
-    → are_stmts c r known body ≡ true → Open r (e ∷ st) → has In_scope (e ∷ st) ≡ true → ((j : ℕ) → known j ≡ true → j < c.vals)
-    → Keeps w xs ids n tests c (weight_all body) (λ l. run_items (xs l) body) known (known_list known body) k v (e ∷ st) (masked_all ids (place k v (e ∷ st)) body)
-list_keeps w xs ids n tests c same r [] known k v e st fit o scoped low = none_keeps leaves_masked w xs ids n tests c same known k v e st
-list_keeps w xs ids n tests c same r (a ∷ rest) known k v e st fit o scoped low =
+list_keeps : (w : World) (xs : ℕ → ItemWorld) (ids : Ids) (n tests : ℕ) (c : Counts) (same : (l : ℕ) → l < n → SameWorld w (xs l)) (r : Around) (body : List Stmt) (known : Known) (k v : ℕ) (e : Entry) (st : List Entry)
+    → are_stmts c r known body ≡ true → asks_all ids.uses body ≡ true → Open r (e ∷ st) → has In_scope (e ∷ st) ≡ true → ((j : ℕ) → known j ≡ true → j < c.vals)
+    → Keeps w xs ids n tests c (weight_all body) (λ l. run_items (xs l) body) known (known_list known body) k v (e ∷ st) (masked_all ids.vals (place k v (e ∷ st)) body)
+list_keeps w xs ids n tests c same r [] known k v e st fit asked o scoped low = none_keeps leaves_masked w xs ids n tests c same known k v e st
+list_keeps w xs ids n tests c same r (a ∷ rest) known k v e st fit asked o scoped low =
     let p = and_parts (is_stmt c r known a) (are_stmts c r (known_after known a) rest) fit in
+    let u1 = and_parts (asks ids.uses a) (asks_all ids.uses rest) asked in
     let low2 : (j : ℕ) → known_after known a j ≡ true → j < c.vals = low_after c r a known p.0 low in
     both_keep w xs ids n tests c (Rattle.mask_law.specs.Weights.weight a) (weight_all rest) (λ l. Rattle.item_ir.specs.IrMeaning.run (xs l) a) (λ l. run_items (xs l) rest) known (known_after known a) (known_list (known_after known a) rest) k v e st
-    (Rattle.mask_flow.specs.Masked.masked ids (place k v (e ∷ st)) a) (masked_all ids (place k v (e ∷ st)) rest) (still_known a known) low2 (λ l. list_grows (xs l) rest)
-    (stmt_keeps leaves_masked w xs ids n tests c same r a known k v e st p.0 o scoped low) (list_keeps w xs ids n tests c same r rest (known_after known a) k v e st p.1 o scoped low2)
+    (Rattle.mask_flow.specs.Masked.masked ids.vals (place k v (e ∷ st)) a) (masked_all ids.vals (place k v (e ∷ st)) rest) (still_known a known) low2 (λ l. list_grows (xs l) rest)
+    (stmt_keeps leaves_masked w xs ids n tests c same r a known k v e st p.0 u1.0 o scoped low) (list_keeps w xs ids n tests c same r rest (known_after known a) k v e st p.1 u1.1 o scoped low2)
 
 -- ---- what an item leaves of a byte
 
@@ -79,8 +79,8 @@ unwritten law x body y z f a ends fresh unset =
     let new : z.touches ≡ r.new = r.kept.touches ∙ ap (λ l. r.new ++ l) fresh ∙ none_behind r.new in
     r.kept.bytes a (sym (same_writes r.new a) ∙ ap (λ l. writes l a) (sym new) ∙ unset)
 
-module _ (law : RunsAreLocal) (w : World) (n : ℕ) (c : Counts) (body : List Stmt) (ids : List Val) (live k i : ℕ) (act : ℕ → Bool) (xs : ℕ → ItemWorld) (starts ends : ℕ → Item) (flows : ℕ → Flow) (t : State)
-    (fit : is_item c body ≡ true) (same : (l : ℕ) → l < n → SameWorld w (xs l)) (b0 : Begins n c.vars c.vals k live ids act xs starts t)
+module _ (law : RunsAreLocal) (w : World) (n : ℕ) (c : Counts) (body : List Stmt) (ids : Ids) (live k i : ℕ) (act : ℕ → Bool) (xs : ℕ → ItemWorld) (starts ends : ℕ → Item) (flows : ℕ → Flow) (t : State)
+    (fit : is_item c body ≡ true) (asked : asks_all ids.uses body ≡ true) (same : (l : ℕ) → l < n → SameWorld w (xs l)) (b0 : Begins n c.vars c.vals k live ids act xs starts t)
     (one : OneByOne n act (λ l. run_items (xs l) body) t.mem starts ends flows) (few : total n starts < i) where
   -- the bytes of each lane
   both : (p q : Bool) → (p && q) ≡ true → (p ≡ true) × (q ≡ true)
@@ -192,10 +192,10 @@ module _ (law : RunsAreLocal) (w : World) (n : ℕ) (c : Counts) (body : List St
     written = λ l a lt on h. ap (λ z. z && writes (ends l).touches a) on ∙ h;
   }
 
-  ran : (t' : State) × (run_all w n i (masked_all ids (place k (nu + 1) (in_scope nu [])) body) t2 ≡ Ends t')
+  ran : (t' : State) × (run_all w n i (masked_all ids.vals (place k (nu + 1) (in_scope nu [])) body) t2 ≡ Ends t')
       × After n c.vars c.vals (weight_all body) bytes act (λ l j. none_known j ≡ true) (λ j. known_list none_known body j ≡ true) k (nu + 1) (in_scope nu []) t2 t' starts ends flows
   ran =
-      list_keeps w xs ids n i c same scope_around body none_known k (nu + 1) (record { kind = In_scope; var = nu }) [] fit (open_scope nu []) refl (λ j h. absurd (never j h))
+      list_keeps w xs ids n i c same scope_around body none_known k (nu + 1) (record { kind = In_scope; var = nu }) [] fit asked (open_scope nu []) refl (λ j h. absurd (never j h))
       bytes act (λ l. none_known) t2 starts ends flows before items
 
   memory : (a : ℕ) → ran.0.mem a ≡ mem_before act ends t.mem n a
@@ -211,7 +211,7 @@ module _ (law : RunsAreLocal) (w : World) (n : ℕ) (c : Counts) (body : List St
   two_more : t.steps + 1 + 1 ≡ t.steps + 2
   two_more = omega arith
 
-  pub item_ends : (t' : State) × (run_all w n i (masked_item ids (val live) k c.vars body) t ≡ Ends t') × EndsAs n (weight_all body) act t starts ends t'
+  pub item_ends : (t' : State) × (run_all w n i (masked_item ids.vals (val live) k c.vars body) t ≡ Ends t') × EndsAs n (weight_all body) act t starts ends t'
   item_ends = (
     ran.0,
     ran.1,
@@ -224,4 +224,4 @@ module _ (law : RunsAreLocal) (w : World) (n : ℕ) (c : Counts) (body : List St
   )
 
 pub items_kept : RunsAreLocal → (w : World) (n : ℕ) (c : Counts) (body : List Stmt) → KeepsItems w n c body
-items_kept law w n c body ids live k i act xs starts ends flows t fit same b0 one few = item_ends law w n c body ids live k i act xs starts ends flows t fit same b0 one few
+items_kept law w n c body ids live k i act xs starts ends flows t fit asked same b0 one few = item_ends law w n c body ids live k i act xs starts ends flows t fit asked same b0 one few

@@ -4,7 +4,7 @@ use Rattle.item_ir.specs.IrMeaning.{World as ItemWorld, State as Item, Ends as D
 use Rattle.lane_ir.specs.LaneMeaning.{World, State, Ends, run_all}
 use Rattle.lane_ir.proofs.Steps.{bool_cases}
 use Rattle.item_ir.specs.declared.form.Stmt.TheVariants as i
-use Rattle.item_ir.specs.declared.form.Val.{Val}
+use Rattle.mask_law.specs.Worlds.{Ids}
 use Rattle.mask_law.specs.Stacks.{Kind, Entry, Round, In_loop, In_scope, var_at, place}
 use Rattle.mask_flow.specs.Masked.{leaves_to, round_of, loop_of}
 use Rattle.mask_law.proofs.Places.{round_at, loop_at}
@@ -20,7 +20,7 @@ total_same (suc n) s s' h =
     ap (λ x. x + (s' n).left) (total_same n s s' (λ l lt. h l (omega (arith, lt)))) ∙ ap (λ (y : Item). total n s + y.left) (h n (omega arith))
 
 -- any way to leave, and any values that are known
-pub leave : (w : World) (n nu nv tests : ℕ) (b : Bytes n) (ids : List Val) (xs : ℕ → ItemWorld) (act : ℕ → Bool) (K : ℕ → ℕ → Type 0) (D : ℕ → Type 0) (k v : ℕ) (kind : Kind) (e : Entry) (st : List Entry) (t : State) (s s' : ℕ → Item) (f : ℕ → Flow)
+pub leave : (w : World) (n nu nv tests : ℕ) (b : Bytes n) (ids : Ids) (xs : ℕ → ItemWorld) (act : ℕ → Bool) (K : ℕ → ℕ → Type 0) (D : ℕ → Type 0) (k v : ℕ) (kind : Kind) (e : Entry) (st : List Entry) (t : State) (s s' : ℕ → Item) (f : ℕ → Flow)
     (end : ℕ) → end ≡ var_at kind (e ∷ st) → has kind (e ∷ st) ≡ true → Before n nu nv tests b ids xs act K D k v (e ∷ st) t s
     → ((l : ℕ) → l < n → s' l ≡ s l)
     → ((l : ℕ) → l < n → act l ≡ true → (f l ≡ Next → ⊥) × (after (f l) (column (e ∷ st) (row_of t l)) ≡ left_to kind (column (e ∷ st) (row_of t l))))
@@ -68,19 +68,19 @@ again_apart : Again ≡ Next → ⊥
 again_apart e = cc
 
 pub scope_left : IsMasked i.Leave
-scope_left w xs ids n tests c r b act known knowns k v e st t s s' f fit around same before items =
+scope_left w xs ids n tests c r b act known knowns k v e st t s s' f fit asks around same before items =
     leave w n c.vars c.vals tests b ids xs act (λ l j. knowns l j ≡ true) (λ j. known j ≡ true) k v In_scope e st t s s' f (var_at In_scope (e ∷ st)) refl (around.scope fit) before
     (λ l lt. elim (bool_cases (act l)) [ inl a ↦ (flow_is Gone (f l) (s l) (s' l) (items.on l lt a)).1 | inr a ↦ items.off l lt a ])
     (λ l lt a. (let g = (flow_is Gone (f l) (s l) (s' l) (items.on l lt a)).0 in (apart Gone gone_apart (f l) g, ap (λ x. after x (column (e ∷ st) (row_of t l))) g)))
 
 pub loop_left : IsMasked i.Break
-loop_left w xs ids n tests c r b act known knowns k v e st t s s' f fit around same before items =
+loop_left w xs ids n tests c r b act known knowns k v e st t s s' f fit asks around same before items =
     leave w n c.vars c.vals tests b ids xs act (λ l j. knowns l j ≡ true) (λ j. known j ≡ true) k v In_loop e st t s s' f (loop_of (place k v (e ∷ st))) (loop_at k v (e ∷ st)) (around.loop fit) before
     (λ l lt. elim (bool_cases (act l)) [ inl a ↦ (flow_is Broke (f l) (s l) (s' l) (items.on l lt a)).1 | inr a ↦ items.off l lt a ])
     (λ l lt a. (let g = (flow_is Broke (f l) (s l) (s' l) (items.on l lt a)).0 in (apart Broke broke_apart (f l) g, ap (λ x. after x (column (e ∷ st) (row_of t l))) g)))
 
 pub round_left : IsMasked i.Continue
-round_left w xs ids n tests c r b act known knowns k v e st t s s' f fit around same before items =
+round_left w xs ids n tests c r b act known knowns k v e st t s s' f fit asks around same before items =
     leave w n c.vars c.vals tests b ids xs act (λ l j. knowns l j ≡ true) (λ j. known j ≡ true) k v Round e st t s s' f (round_of (place k v (e ∷ st))) (round_at k v (e ∷ st)) (around.round fit) before
     (λ l lt. elim (bool_cases (act l)) [ inl a ↦ (flow_is Again (f l) (s l) (s' l) (items.on l lt a)).1 | inr a ↦ items.off l lt a ])
     (λ l lt a. (let g = (flow_is Again (f l) (s l) (s' l) (items.on l lt a)).0 in (apart Again again_apart (f l) g, ap (λ x. after x (column (e ∷ st) (row_of t l))) g)))

@@ -4,12 +4,12 @@ use Rattle.std.specs.Prelude.{pred, if◌then◌else◌, ◌&&◌}
 use Rattle.std.proofs.lemmas.Bool.{and_parts}
 use Rattle.item_ir.specs.Valid.{Counts, Known}
 use Rattle.item_ir.specs.IrMeaning.{World as ItemWorld, State as Item, Run as Ran, Ends as Done, Flow, Next, Broke, Again, Gone, rounds as turns_of, after_body}
-use Rattle.item_ir.specs.declared.form.Val.{Val}
 use Rattle.lane_ir.specs.LaneMeaning.{World, State, Run, Ends, and_then, is_on, any_on, chosen, costs, rounds, run_all}
 use Rattle.lane_ir.specs.Weights.{test_done}
 use Rattle.lane_ir.specs.declared.form.LaneStmt.{LaneStmt}
 use Rattle.lane_ir.proofs.Steps.{bool_cases, run_on}
 use Rattle.mask_flow.specs.Masked.{opens, tests as tests_code, settles}
+use Rattle.mask_law.specs.Worlds.{Ids}
 use Rattle.mask_law.specs.Stacks.{Round, In_loop, In_scope, Entry, in_loop, in_round, place, val}
 use Rattle.mask_law.specs.Masks.{Mask, column, top_on, all_on, on_at, settle, clear_end, after}
 use Rattle.mask_law.specs.Joins.{tail, mask}
@@ -48,7 +48,7 @@ goes_round n i k head body t t2 t7 u h a o r =
     ∙ ap (λ o. if o then and_then (body (costs test_done t2)) (rounds n i head k body) else Ends (costs test_done t2)) a
     ∙ ap (λ (r : Run). and_then r (rounds n i head k body)) o ∙ r
 
-module _ (w : World) (xs : ℕ → ItemWorld) (ids : List Val) (n tests : ℕ) (c : Counts) (wh wb ws : ℕ) (Zh Zb Zs : ℕ → Item → Ran) (known Eh Eb Es : Known) (x k v : ℕ) (e : Entry) (st : List Entry) (H B S : List LaneStmt)
+module _ (w : World) (xs : ℕ → ItemWorld) (ids : Ids) (n tests : ℕ) (c : Counts) (wh wb ws : ℕ) (Zh Zb Zs : ℕ → Item → Ran) (known Eh Eb Es : Known) (x k v : ℕ) (e : Entry) (st : List Entry) (H B S : List LaneStmt)
     (mono : (j : ℕ) → known j ≡ true → Eh j ≡ true) (low : (j : ℕ) → Eh j ≡ true → j < c.vals) (at : Eh x ≡ true)
     (growh : (l : ℕ) (y : Item) → Grows y (Zh l y)) (growb : (l : ℕ) (y : Item) → Grows y (Zb l y)) (grows : (l : ℕ) (y : Item) → Grows y (Zs l y))
     (head : Keeps w xs ids n tests c wh Zh known Eh k (v + 2) (in_loop v (e ∷ st)) H)

@@ -2,13 +2,13 @@
 use Rattle.std.proofs.Common.{◌≡◌, ℕ, suc, ◌+◌, ◌*◌, ◌<◌, ◌≤◌, inl, inr, Bool, true, List, ◌∷◌, ◌++◌, sym, ap, ◌∙◌, subst, arith}
 use Rattle.item_ir.specs.Valid.{Counts, Known}
 use Rattle.item_ir.specs.IrMeaning.{World as ItemWorld, State as Item, Run as Ran, Flow, rounds as turns_of}
-use Rattle.item_ir.specs.declared.form.Val.{Val}
 use Rattle.lane_ir.specs.LaneMeaning.{World, State, Run, Ends, and_then, is_on, rounds, run_all}
 use Rattle.lane_ir.specs.declared.form.LaneStmt.{LaneStmt}
 use Rattle.lane_ir.specs.declared.form.LaneStmt.TheVariants.{WhileAny}
 use Rattle.lane_ir.proofs.Steps.{run_on, run-WhileAny}
 use Rattle.mask_flow.specs.declared.place.Place.{Place}
 use Rattle.mask_flow.specs.Masked.{opens, tests as tests_code, settles, loops}
+use Rattle.mask_law.specs.Worlds.{Ids}
 use Rattle.mask_law.specs.Stacks.{In_loop, In_scope, Entry, top, in_loop, in_round, place, val}
 use Rattle.mask_law.specs.Masks.{Mask, column, top_on, settle, after, has}
 use Rattle.mask_law.specs.Joins.{tail, Joins}
@@ -32,7 +32,7 @@ over_settles st words f now j scoped (inr o) = ap settle o.1 ∙ j.left scoped �
 grouped : (a b c : ℕ) → a + b + c ≡ a + (b + c)
 grouped a b c = omega arith
 
-module _ (w : World) (xs : ℕ → ItemWorld) (ids : List Val) (n tests : ℕ) (c : Counts) (wh wb ws : ℕ) (Zh Zb Zs : ℕ → Item → Ran) (known Eh Eb Es : Known) (x k v : ℕ) (e : Entry) (st : List Entry) (H B S : List LaneStmt)
+module _ (w : World) (xs : ℕ → ItemWorld) (ids : Ids) (n tests : ℕ) (c : Counts) (wh wb ws : ℕ) (Zh Zb Zs : ℕ → Item → Ran) (known Eh Eb Es : Known) (x k v : ℕ) (e : Entry) (st : List Entry) (H B S : List LaneStmt)
     (mono : (j : ℕ) → known j ≡ true → Eh j ≡ true) (low : (j : ℕ) → Eh j ≡ true → j < c.vals) (at : Eh x ≡ true)
     (growh : (l : ℕ) (y : Item) → Grows y (Zh l y)) (growb : (l : ℕ) (y : Item) → Grows y (Zb l y)) (grows : (l : ℕ) (y : Item) → Grows y (Zs l y))
     (head : Keeps w xs ids n tests c wh Zh known Eh k (v + 2) (in_loop v (e ∷ st)) H)

@@ -1,11 +1,10 @@
 -- Values that a statement needs for a moment change nothing that its item sees.
 use Rattle.std.proofs.Common.{◌≡◌, ℕ, suc, ◌+◌, ◌*◌, ◌<◌, ◌≤◌, Bool, List, ap, ◌∙◌, arith}
 use Rattle.item_ir.specs.IrMeaning.{World as ItemWorld, State as Item, Flow}
-use Rattle.item_ir.specs.declared.form.Val.{Val}
 use Rattle.lane_ir.specs.LaneMeaning.{State}
 use Rattle.mask_law.specs.Stacks.{Entry}
 use Rattle.mask_law.specs.Masks.{column, top_on, all_on, after}
-use Rattle.mask_law.specs.Worlds.{HasIds, BelowIds}
+use Rattle.mask_law.specs.Worlds.{Ids, HasIds, BelowIds}
 use Rattle.mask_law.specs.Lanes.{Bytes, total, Before, After, lane_log}
 
 -- only values from k on may have changed
@@ -16,15 +15,15 @@ pub record OnlyTemps (k : ℕ) (t t' : State) : Type 0 where
   pub mem : t'.mem ≡ t.mem
   pub log : t'.log ≡ t.log
 
-pub ids_kept : (ids : List Val) (x : ItemWorld) (nv k l : ℕ) (t t' : State) → BelowIds ids nv k → ((j : ℕ) → j < k → t'.vals j ≡ t.vals j) → HasIds ids x t l → HasIds ids x t' l
+pub ids_kept : (ids : Ids) (x : ItemWorld) (nv k l : ℕ) (t t' : State) → BelowIds ids.vals nv k → ((j : ℕ) → j < k → t'.vals j ≡ t.vals j) → HasIds ids x t l → HasIds ids x t' l
 ids_kept ids x nv k l t t' below vals h =
     record {
-      global = λ d lt. ap (λ (g : ℕ → ℕ). g l) (vals _ (below d (omega (arith, lt))).1) ∙ h.global d lt;
-      local = λ d lt. ap (λ (g : ℕ → ℕ). g l) (vals _ (below (3 + d) (omega (arith, lt))).1) ∙ h.local d lt;
-      group = λ d lt. ap (λ (g : ℕ → ℕ). g l) (vals _ (below (6 + d) (omega (arith, lt))).1) ∙ h.group d lt;
+      global = λ on d lt. ap (λ (g : ℕ → ℕ). g l) (vals _ (below d (omega (arith, lt))).1) ∙ h.global on d lt;
+      local = λ on d lt. ap (λ (g : ℕ → ℕ). g l) (vals _ (below (3 + d) (omega (arith, lt))).1) ∙ h.local on d lt;
+      group = λ on d lt. ap (λ (g : ℕ → ℕ). g l) (vals _ (below (6 + d) (omega (arith, lt))).1) ∙ h.group on d lt;
     }
 
-pub before_kept : (n nu nv i : ℕ) (b : Bytes n) (ids : List Val) (xs : ℕ → ItemWorld) (act : ℕ → Bool) (K : ℕ → ℕ → Type 0) (D : ℕ → Type 0) (k v : ℕ) (st : List Entry) (t t' : State) (s : ℕ → Item)
+pub before_kept : (n nu nv i : ℕ) (b : Bytes n) (ids : Ids) (xs : ℕ → ItemWorld) (act : ℕ → Bool) (K : ℕ → ℕ → Type 0) (D : ℕ → Type 0) (k v : ℕ) (st : List Entry) (t t' : State) (s : ℕ → Item)
     → OnlyTemps k t t' → Before n nu nv i b ids xs act K D k v st t s → Before n nu nv i b ids xs act K D k v st t' s
 before_kept n nu nv i b ids xs act K D k v st t t' s q before =
     record {

@@ -17,7 +17,7 @@ use Rattle.lane_ir.specs.LaneMeaning.{World, State, Ends, chosen, value, defines
 use Rattle.lane_ir.proofs.Steps.{with_at-same, with_at-other}
 use Rattle.mask_flow.specs.Masked.{val, id, small_numbers, picks}
 use Rattle.mask_law.specs.Stacks.{Entry}
-use Rattle.mask_law.specs.Worlds.{SameWorld}
+use Rattle.mask_law.specs.Worlds.{Ids, SameWorld}
 use Rattle.mask_law.specs.Lanes.{Bytes, Before, Items, After}
 use Rattle.mask_law.specs.Leaves.{IdsMasked}
 use Rattle.mask_law.proofs.Emitted.{in_lane}
@@ -131,7 +131,7 @@ unfolding picks small_numbers
 picked_run w n tests k x dim ids m t dl al bl cl = refl
 
 -- an id, of three that begin with the m-th, where F says what it is of an item
-module _ (x : Val) (which : WorkFunction) (dim : Val) (w : World) (xs : ℕ → ItemWorld) (ids : List Val) (n tests : ℕ) (c : Counts) (b : Bytes n) (act : ℕ → Bool) (known : Known) (knowns : ℕ → Known)
+module _ (x : Val) (which : WorkFunction) (dim : Val) (w : World) (xs : ℕ → ItemWorld) (ids : Ids) (n tests : ℕ) (c : Counts) (b : Bytes n) (act : ℕ → Bool) (known : Known) (knowns : ℕ → Known)
     (k v : ℕ) (e : Entry) (st : List Entry) (t : State) (s s' : ℕ → Item) (f : ℕ → Flow)
     (low : x.0 < c.vals) (new : not (known x.0) ≡ true) (at : known dim.0 ≡ true)
     (before : Before n c.vars c.vals tests b ids xs act (λ l j. knowns l j ≡ true) (λ j. known j ≡ true) k v (e ∷ st) t s)
@@ -140,26 +140,26 @@ module _ (x : Val) (which : WorkFunction) (dim : Val) (w : World) (xs : ℕ → 
   F l y = work_function which (xs l).work y
 
   pub picks_id : ((l : ℕ) → l < n → act l ≡ true
-      → (t.vals (id ids m).0 l ≡ F l 0) × (t.vals (id ids (m + 1)).0 l ≡ F l 1) × (t.vals (id ids (m + 2)).0 l ≡ F l 2) × ((y : ℕ) → 3 ≤ y → F l y ≡ 0))
-      → (t' : State) × (run_all w n tests (picks k x dim ids m) t ≡ Ends t')
+      → (t.vals (id ids.vals m).0 l ≡ F l 0) × (t.vals (id ids.vals (m + 1)).0 l ≡ F l 1) × (t.vals (id ids.vals (m + 2)).0 l ≡ F l 2) × ((y : ℕ) → 3 ≤ y → F l y ≡ 0))
+      → (t' : State) × (run_all w n tests (picks k x dim ids.vals m) t ≡ Ends t')
       × After n c.vars c.vals 14 b act (λ l j. knowns l j ≡ true) (λ j. with_known x.0 known j ≡ true) k v (e ∷ st) t t' s s' f
   picks_id those =
       let high = before.high in
       let dl : dim.0 < k = let a = before.known_low dim.0 at in omega (arith, a, high) in
-      let al : (id ids m).0 < k = (before.below m (omega (arith, few))).1 in
-      let bl : (id ids (m + 1)).0 < k = (before.below (m + 1) (omega (arith, few))).1 in
-      let cl : (id ids (m + 2)).0 < k = (before.below (m + 2) few).1 in
-      let u : State = t7 w n k dim (id ids m) (id ids (m + 1)) (id ids (m + 2)) t dl al bl cl in
-      let q : OnlyTemps k t u = temps7 w n k dim (id ids m) (id ids (m + 1)) (id ids (m + 2)) t dl al bl cl in
+      let al : (id ids.vals m).0 < k = (before.below m (omega (arith, few))).1 in
+      let bl : (id ids.vals (m + 1)).0 < k = (before.below (m + 1) (omega (arith, few))).1 in
+      let cl : (id ids.vals (m + 2)).0 < k = (before.below (m + 2) few).1 in
+      let u : State = t7 w n k dim (id ids.vals m) (id ids.vals (m + 1)) (id ids.vals (m + 2)) t dl al bl cl in
+      let q : OnlyTemps k t u = temps7 w n k dim (id ids.vals m) (id ids.vals (m + 1)) (id ids.vals (m + 2)) t dl al bl cl in
       let W : ℕ → Item → ℕ = λ l y. F l (y.vals dim.0) in
-      let means : (l : ℕ) → l < n → act l ≡ true → value w u l (d.Choose dim (val (k + 3)) (id ids m)) ≡ W l (s l) = λ l lt a.
+      let means : (l : ℕ) → l < n → act l ≡ true → value w u l (d.Choose dim (val (k + 3)) (id ids.vals m)) ≡ W l (s l) = λ l lt a.
       (let h = those l lt a in
-      value7 w n k dim (id ids m) (id ids (m + 1)) (id ids (m + 2)) t dl al bl cl l lt
-      ∙ pick (t.vals dim.0 l) (t.vals (id ids m).0 l) (t.vals (id ids (m + 1)).0 l) (t.vals (id ids (m + 2)).0 l) (F l) h.0 h.1 h.2 h.3 ∙ ap (F l) ((before.rel l lt).vals dim.0 (before.all l dim.0 lt a at))) in
-      let z = defined x (d.Choose dim (val (k + 3)) (id ids m)) W w xs ids n tests c b act known knowns k v e st u s s' f low new means
+      value7 w n k dim (id ids.vals m) (id ids.vals (m + 1)) (id ids.vals (m + 2)) t dl al bl cl l lt
+      ∙ pick (t.vals dim.0 l) (t.vals (id ids.vals m).0 l) (t.vals (id ids.vals (m + 1)).0 l) (t.vals (id ids.vals (m + 2)).0 l) (F l) h.0 h.1 h.2 h.3 ∙ ap (F l) ((before.rel l lt).vals dim.0 (before.all l dim.0 lt a at))) in
+      let z = defined x (d.Choose dim (val (k + 3)) (id ids.vals m)) W w xs ids n tests c b act known knowns k v e st u s s' f low new means
       (before_kept n c.vars c.vals tests b ids xs act (λ l j. knowns l j ≡ true) (λ j. known j ≡ true) k v (e ∷ st) t u s q before) items in (
-        defines w n x.0 (d.Choose dim (val (k + 3)) (id ids m)) u,
-        picked_run w n tests k x dim ids m t dl al bl cl,
+        defines w n x.0 (d.Choose dim (val (k + 3)) (id ids.vals m)) u,
+        picked_run w n tests k x dim ids.vals m t dl al bl cl,
         after_more n c.vars c.vals 1 13 b act (λ l j. knowns l j ≡ true) (λ j. with_known x.0 known j ≡ true) k v (e ∷ st) t u _ s s' f q (omega arith) z,
       )
 
@@ -171,24 +171,24 @@ past_two w x same y h = (same.past y h, same.local y ∙ ap (λ z. if z then w.l
 
 pub ids_masked : IdsMasked
 unfolding work_function
-ids_masked x WorkDim dim q w xs ids n tests c r b act known knowns k v e st t s s' f fit around same before items = cc
-ids_masked x GlobalSize dim q w xs ids n tests c r b act known knowns k v e st t s s' f fit around same before items = cc
-ids_masked x LocalSize dim q w xs ids n tests c r b act known knowns k v e st t s s' f fit around same before items = cc
-ids_masked x NumGroups dim q w xs ids n tests c r b act known knowns k v e st t s s' f fit around same before items = cc
-ids_masked x GlobalId dim q w xs ids n tests c r b act known knowns k v e st t s s' f fit around same before items =
+ids_masked x WorkDim dim q w xs ids n tests c r b act known knowns k v e st t s s' f fit asks around same before items = cc
+ids_masked x GlobalSize dim q w xs ids n tests c r b act known knowns k v e st t s s' f fit asks around same before items = cc
+ids_masked x LocalSize dim q w xs ids n tests c r b act known knowns k v e st t s s' f fit asks around same before items = cc
+ids_masked x NumGroups dim q w xs ids n tests c r b act known knowns k v e st t s s' f fit asks around same before items = cc
+ids_masked x GlobalId dim q w xs ids n tests c r b act known knowns k v e st t s s' f fit asks around same before items =
     let p = and_parts (nat_lt x.0 c.vals) (not (known x.0) && known dim.0) fit in
     let g = and_parts (not (known x.0)) (known dim.0) p.1 in
     picks_id x GlobalId dim w xs ids n tests c b act known knowns k v e st t s s' f (ltb-true x.0 c.vals p.0) g.0 g.1 before items 0 (omega arith)
-    (λ l lt a. (let h = before.has_ids l lt a in (h.global 0 (omega arith), h.global 1 (omega arith), h.global 2 (omega arith), λ y le. (same l lt).past y le)))
-ids_masked x LocalId dim q w xs ids n tests c r b act known knowns k v e st t s s' f fit around same before items =
+    (λ l lt a. (let h = before.has_ids l lt a in (h.global asks 0 (omega arith), h.global asks 1 (omega arith), h.global asks 2 (omega arith), λ y le. (same l lt).past y le)))
+ids_masked x LocalId dim q w xs ids n tests c r b act known knowns k v e st t s s' f fit asks around same before items =
     let p = and_parts (nat_lt x.0 c.vals) (not (known x.0) && known dim.0) fit in
     let g = and_parts (not (known x.0)) (known dim.0) p.1 in
     picks_id x LocalId dim w xs ids n tests c b act known knowns k v e st t s s' f (ltb-true x.0 c.vals p.0) g.0 g.1 before items 3 (omega arith)
     (λ l lt a. (let h = before.has_ids l lt a in
-    (h.local 0 (omega arith), h.local 1 (omega arith), h.local 2 (omega arith), λ y le. (let o = past_two w (xs l) (same l lt) y le in (no_rest (xs l) y o.0 o.1).0))))
-ids_masked x GroupId dim q w xs ids n tests c r b act known knowns k v e st t s s' f fit around same before items =
+    (h.local asks 0 (omega arith), h.local asks 1 (omega arith), h.local asks 2 (omega arith), λ y le. (let o = past_two w (xs l) (same l lt) y le in (no_rest (xs l) y o.0 o.1).0))))
+ids_masked x GroupId dim q w xs ids n tests c r b act known knowns k v e st t s s' f fit asks around same before items =
     let p = and_parts (nat_lt x.0 c.vals) (not (known x.0) && known dim.0) fit in
     let g = and_parts (not (known x.0)) (known dim.0) p.1 in
     picks_id x GroupId dim w xs ids n tests c b act known knowns k v e st t s s' f (ltb-true x.0 c.vals p.0) g.0 g.1 before items 6 (omega arith)
     (λ l lt a. (let h = before.has_ids l lt a in
-    (h.group 0 (omega arith), h.group 1 (omega arith), h.group 2 (omega arith), λ y le. (let o = past_two w (xs l) (same l lt) y le in (no_rest (xs l) y o.0 o.1).1))))
+    (h.group asks 0 (omega arith), h.group asks 1 (omega arith), h.group asks 2 (omega arith), λ y le. (let o = past_two w (xs l) (same l lt) y le in (no_rest (xs l) y o.0 o.1).1))))

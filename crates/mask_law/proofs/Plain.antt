@@ -52,7 +52,7 @@ works LocalId q w x s d = cc
 works GroupId q w x s d = cc
 
 pub plain : Defines
-plain x e q w xs ids n tests c r b act known knowns k v e' st t s s' f fit around same before items =
+plain x e q w xs ids n tests c r b act known knowns k v e' st t s s' f fit asks around same before items =
     let p = and_parts (nat_lt x.0 c.vals) (not (known x.0) && is_def c known e) fit in
     let g = and_parts (not (known x.0)) (is_def c known e) p.1 in
     by e q g.1 items
@@ -64,7 +64,7 @@ plain x e q w xs ids n tests c r b act known knowns k v e' st t s s' f fit aroun
         → After n c.vars c.vals (done e) b act (λ l j. knowns l j ≡ true) (λ j. with_known x.0 known j ≡ true) k v (e' ∷ st) t (defines w n x.0 e t) s s' f)
         → ((l : ℕ) → l < n → act l ≡ true → (j : ℕ) → known j ≡ true → t.vals j l ≡ (s l).vals j)
         → ((l : ℕ) → l < n → (u : ℕ) → u < c.vars → t.vars u l ≡ (s l).vars u)
-        → (t' : State) × (run_all w n tests (masked ids (place k v (e' ∷ st)) (i.Let x e)) t ≡ Ends t')
+        → (t' : State) × (run_all w n tests (masked ids.vals (place k v (e' ∷ st)) (i.Let x e)) t ≡ Ends t')
         × After n c.vars c.vals (weight (i.Let x e)) b act (λ l j. knowns l j ≡ true) (λ j. with_known x.0 known j ≡ true) k v (e' ∷ st) t t' s s' f
     by (d.Const y) q g its go at vars = (defines w n x.0 (d.Const y) t, refl, go (λ l z. y) (λ l lt a. refl) its)
     by (d.Param y) q g its go at vars = (defines w n x.0 (d.Param y) t, refl, go (λ l z. (xs l).params y) (λ l lt a. sym ((same l lt).params y)) its)

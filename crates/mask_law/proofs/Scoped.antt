@@ -3,11 +3,11 @@ use Rattle.std.proofs.Common.{◌≡◌, ℕ, suc, ◌+◌, ◌*◌, ◌<◌, �
 use Rattle.std.specs.Prelude.{if◌then◌else◌}
 use Rattle.item_ir.specs.Valid.{Counts, Known}
 use Rattle.item_ir.specs.IrMeaning.{World as ItemWorld, State as Item, Run as Ran, Ends as Done, Stops, Spent, Flow, Next, Broke, Again, Gone, left_scope}
-use Rattle.item_ir.specs.declared.form.Val.{Val}
 use Rattle.lane_ir.specs.LaneMeaning.{World, State, Ends, is_on, run_all}
 use Rattle.lane_ir.specs.declared.form.LaneStmt.{LaneStmt}
 use Rattle.lane_ir.proofs.Steps.{run_on}
 use Rattle.mask_flow.specs.Masked.{opens}
+use Rattle.mask_law.specs.Worlds.{Ids}
 use Rattle.mask_law.specs.Stacks.{Entry, In_scope, top, in_scope}
 use Rattle.mask_law.specs.Masks.{column, top_on, all_on, after, flow_has}
 use Rattle.mask_law.specs.Joins.{tail, mask}
@@ -52,7 +52,7 @@ scope_goes v st (Done Gone s) f y h q = cc
 scope_goes v st Stops f y h q = cc
 scope_goes v st Spent f y h q = cc
 
-module _ (w : World) (xs : ℕ → ItemWorld) (ids : List Val) (n tests : ℕ) (c : Counts) (weight : ℕ) (Z : ℕ → Item → Ran) (known E : Known) (k v : ℕ) (e : Entry) (st : List Entry) (code : List LaneStmt)
+module _ (w : World) (xs : ℕ → ItemWorld) (ids : Ids) (n tests : ℕ) (c : Counts) (weight : ℕ) (Z : ℕ → Item → Ran) (known E : Known) (k v : ℕ) (e : Entry) (st : List Entry) (code : List LaneStmt)
     (flows : (l : ℕ) (x : Item) (f : Flow) (y : Item) → Z l x ≡ Done f y → flow_has f (in_scope v (e ∷ st)) ≡ true)
     (inner : Keeps w xs ids n tests c weight Z known E k (v + 1) (in_scope v (e ∷ st)) code) where
   module _ (b : Bytes n) (act : ℕ → Bool) (knowns : ℕ → Known) (t : State) (s s' : ℕ → Item) (f : ℕ → Flow)

@@ -4,13 +4,12 @@ use Rattle.std.specs.Prelude.{if◌then◌else◌, ◌&&◌}
 use Rattle.std.proofs.lemmas.Bool.{and_parts}
 use Rattle.item_ir.specs.Valid.{Counts, Known}
 use Rattle.item_ir.specs.IrMeaning.{World as ItemWorld, State as Item, Run as Ran, Ends as Done, Stops, Spent, Flow, Next, Broke, Again, Gone, and_then}
-use Rattle.item_ir.specs.declared.form.Val.{Val}
 use Rattle.lane_ir.specs.LaneMeaning.{World, State, Ends, run_all}
 use Rattle.lane_ir.specs.declared.form.LaneStmt.{LaneStmt}
 use Rattle.lane_ir.proofs.Steps.{bool_cases, run_on}
 use Rattle.mask_law.specs.Stacks.{Entry, Round, In_loop, In_scope}
 use Rattle.mask_law.specs.Masks.{Mask, column, top_on, all_on, clear_top, clear_end, after}
-use Rattle.mask_law.specs.Worlds.{HasIds, BelowIds}
+use Rattle.mask_law.specs.Worlds.{Ids, HasIds, BelowIds}
 use Rattle.mask_law.specs.Lanes.{Bytes, total, Before, Items, After, Stacked, row_of}
 use Rattle.mask_law.proofs.Growth.{Grown, Grows}
 
@@ -94,12 +93,12 @@ column_same nu v (x ∷ st) old new h e =
 pub steps_of_two : (w1 w2 a m c x y z : ℕ) → c ≤ m → m ≤ a → y + w1 * m ≤ x + w1 * suc a → z + w2 * c ≤ y + w2 * suc m → z + (w1 + w2) * c ≤ x + (w1 + w2) * suc a
 steps_of_two w1 w2 a m c x y z h i j l = grind (arith, h, i, j, l)
 
-pub ids_lane : (ids : List Val) (x : ItemWorld) (nv k l : ℕ) (t t' : State) → BelowIds ids nv k → ((j : ℕ) → nv ≤ j → j < k → t'.vals j l ≡ t.vals j l) → HasIds ids x t l → HasIds ids x t' l
+pub ids_lane : (ids : Ids) (x : ItemWorld) (nv k l : ℕ) (t t' : State) → BelowIds ids.vals nv k → ((j : ℕ) → nv ≤ j → j < k → t'.vals j l ≡ t.vals j l) → HasIds ids x t l → HasIds ids x t' l
 ids_lane ids x nv k l t t' below vals h =
     record {
-      global = λ d lt. (let q = below d (omega (arith, lt)) in vals _ q.0 q.1) ∙ h.global d lt;
-      local = λ d lt. (let q = below (3 + d) (omega (arith, lt)) in vals _ q.0 q.1) ∙ h.local d lt;
-      group = λ d lt. (let q = below (6 + d) (omega (arith, lt)) in vals _ q.0 q.1) ∙ h.group d lt;
+      global = λ on d lt. (let q = below d (omega (arith, lt)) in vals _ q.0 q.1) ∙ h.global on d lt;
+      local = λ on d lt. (let q = below (3 + d) (omega (arith, lt)) in vals _ q.0 q.1) ∙ h.local on d lt;
+      group = λ on d lt. (let q = below (6 + d) (omega (arith, lt)) in vals _ q.0 q.1) ∙ h.group on d lt;
     }
 
 -- ---- code that keeps its items
@@ -108,7 +107,7 @@ pub clash : (o : Bool) → o ≡ false → o ≡ true → ⊥
 clash true h g = cc
 clash false h g = cc
 
-module _ (w : World) (xs : ℕ → ItemWorld) (ids : List Val) (n tests : ℕ) (c : Counts) where
+module _ (w : World) (xs : ℕ → ItemWorld) (ids : Ids) (n tests : ℕ) (c : Counts) where
   abbrev pub Keeps : (weight : ℕ) → (ℕ → Item → Ran) → (known after : Known) → (k v : ℕ) → List Entry → List LaneStmt → Type 0
   Keeps weight Z known E k v st code =
       (b : Bytes n) (act : ℕ → Bool) (knowns : ℕ → Known) (t : State) (s s' : ℕ → Item) (f : ℕ → Flow)

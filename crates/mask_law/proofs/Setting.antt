@@ -30,7 +30,7 @@ next_is : (f : Flow) (x y : Item) → Done Next x ≡ Done f y → (f ≡ Next) 
 next_is f x y e = (cc, cc)
 
 pub set_masked : (u : ℕ) (x : Val) → IsMasked (i.Set u x)
-set_masked u x w xs ids n tests c r b act known knowns k v e st t s s' f fit around same before items =
+set_masked u x w xs ids n tests c r b act known knowns k v e st t s s' f fit asks around same before items =
     let nu : ℕ = c.vars in
     let fits = and_parts (nat_lt u c.vars) (known x.0) fit in
     let low : u < c.vars = ltb-true u c.vars fits.0 in

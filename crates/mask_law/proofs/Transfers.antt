@@ -20,7 +20,7 @@ same_allowed : (t : Scalar) (r q : List Region) (a c : ℕ) → q ≡ r → a �
 same_allowed t r q a c h e = λ i. ((e i % bytes_of t == 0) && lies (sym h i) (e i) (bytes_of t))
 
 pub load_masked : LoadsMasked
-load_masked x ty adr w xs ids n tests c around b act known knowns k v e st t s s' f fit within same before items =
+load_masked x ty adr w xs ids n tests c around b act known knowns k v e st t s s' f fit asks within same before items =
     let K : ℕ → ℕ → Type 0 = λ l i. knowns l i ≡ true in
     let D : ℕ → Type 0 = λ i. known i ≡ true in
     let E : ℕ → Type 0 = λ i. with_known x.0 known i ≡ true in
@@ -70,7 +70,7 @@ load_masked x ty adr w xs ids n tests c around b act known knowns k v e st t s s
     (z.0, ap (λ (o : Run). and_then o (run_all w n tests [])) z.1, z.2)
 
 pub store_masked : StoresMasked
-store_masked ty adr x w xs ids n tests c around b act known knowns k v e st t s s' f fit within same before items =
+store_masked ty adr x w xs ids n tests c around b act known knowns k v e st t s s' f fit asks within same before items =
     let K : ℕ → ℕ → Type 0 = λ l i. knowns l i ≡ true in
     let E : ℕ → Type 0 = λ i. known i ≡ true in
     let fits = and_parts (known adr.0) (known x.0) fit in

@@ -6,7 +6,7 @@ use Rattle.item_ir.specs.declared.form.Def.TheVariants as d
 use Rattle.item_ir.specs.declared.form.Stmt.{Stmt, Row_of-Stmt, end_of-Stmt, more_of-Stmt}
 use Rattle.item_ir.specs.declared.form.Stmt.TheVariants.{Let, Set, Store, SetElement, Clear, If', Loop', Scope', Leave, Break, Continue}
 use Rattle.item_ir.specs.Valid.{Around}
-use Rattle.mask_law.specs.Worlds.{HasIds, BelowIds}
+use Rattle.mask_law.specs.Worlds.{Ids, HasIds, BelowIds}
 use Rattle.item_ir.specs.IrMeaning.{World as ItemWorld, State as Item, Touch as Access, Touched, Reads, Writes, Run as Ran, Ends as Done, Flow, Next}
 use Rattle.lane_ir.specs.LaneMeaning.{State, Touch}
 use Rattle.mask_law.specs.Stacks.{Entry, Round, In_loop, In_scope, branch, in_scope, in_loop, in_round}
@@ -137,7 +137,7 @@ abbrev pub row_of : State → ℕ → ℕ → ℕ
 row_of t l u = t.vars u l
 
 -- act says which lanes are on. Lane l's item has the values K l; those that are on have all of D. No loop may be tested more than i times
-pub record Before (n nu nv i : ℕ) (b : Bytes n) (ids : List Val) (xs : ℕ → ItemWorld) (act : ℕ → Bool) (K : ℕ → ℕ → Type 0) (D : ℕ → Type 0) (k v : ℕ) (st : List Entry) (t : State) (s : ℕ → Item) : Type 0 where
+pub record Before (n nu nv i : ℕ) (b : Bytes n) (ids : Ids) (xs : ℕ → ItemWorld) (act : ℕ → Bool) (K : ℕ → ℕ → Type 0) (D : ℕ → Type 0) (k v : ℕ) (st : List Entry) (t : State) (s : ℕ → Item) : Type 0 where
   pub rel : (l : ℕ) → l < n → LaneRel b nu l (K l) t (s l)
   pub masks : (l : ℕ) → l < n → top_on (column st (row_of t l)) ≡ act l
   pub exact : (l : ℕ) → l < n → act l ≡ true → all_on (column st (row_of t l)) ≡ true
@@ -149,7 +149,7 @@ pub record Before (n nu nv i : ℕ) (b : Bytes n) (ids : List Val) (xs : ℕ →
   -- a scope is always open
   pub scoped : has In_scope st ≡ true
   pub has_ids : (l : ℕ) → l < n → act l ≡ true → HasIds ids (xs l) t l
-  pub below : BelowIds ids nv k
+  pub below : BelowIds ids.vals nv k
   pub rounds : total n s < i
 
 -- what the items of the lanes that are on do
